@@ -1,0 +1,3 @@
+pub mod Grammar
+pub mod States
+pub mod Ladder

@@ -1,0 +1,10 @@
+-- Worked examples: the forms where a byte more begins, and their ends.
+use mathlib.Core.Path.{_≡_, refl}
+use mathlib.Core.List.{[], _∷_, map}
+use Rattle.wire.specs.U29.{moreOf, groups, u29}
+
+forms : map u29 (0x00 ∷ 0x7f ∷ 0x80 ∷ 0x3fff ∷ 0x4000 ∷ 0x1fffff ∷ 0x200000 ∷ 0x1fffffff ∷ [])
+    ≡ (0x00 ∷ []) ∷ (0x7f ∷ []) ∷ (0x81 ∷ 0x00 ∷ []) ∷ (0xff ∷ 0x7f ∷ []) ∷ (0x81 ∷ 0x80 ∷ 0x00 ∷ []) ∷ (0xff ∷ 0xff ∷ 0x7f ∷ [])
+    ∷ (0x80 ∷ 0xc0 ∷ 0x80 ∷ 0x00 ∷ []) ∷ (0xff ∷ 0xff ∷ 0xff ∷ 0xff ∷ []) ∷ []
+unfolding u29 moreOf groups
+forms = refl

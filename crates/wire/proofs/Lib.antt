@@ -1,0 +1,12 @@
+pub mod Big
+pub mod Cast
+pub mod Dates
+pub mod Digits
+pub mod Examples
+pub mod Octets
+pub mod Room
+pub mod Round
+pub mod Shift
+pub mod Sign
+pub mod U29
+pub mod Word
