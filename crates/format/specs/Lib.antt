@@ -1,0 +1,10 @@
+pub mod Decide
+pub mod Reading
+pub mod Step
+pub mod Numbers
+pub mod Standard
+pub mod Unfold
+pub mod RowTest
+pub mod Writing
+pub mod Text
+pub mod Answers

@@ -1,0 +1,147 @@
+-- The lent memory of a reading: six loans as lists of numbers, and a cursor that says how much of each is used.
+use mathlib.Core.Bool.{Bool, true, false, cond, not, _&&_, _||_}
+use mathlib.Core.List.{List, [], _∷_}
+use Prim.Native.Nat.{ℕ, zero, suc, _+_, _*_, _/_, _%_}
+use lib.Dec.{leb, ltb, eqb}
+use lib.ListN.{length, getD, set, replicate}
+use Rattle.rows.specs.declared.Cursor.{Cursor}
+use Rattle.rows.specs.declared.Span.{Span}
+use Rattle.rows.specs.declared.Key.{Key}
+use Rattle.rows.specs.declared.Trait.{Trait}
+
+-- ---- limits
+
+-- bytes of a message
+unfoldable pub messageLimit : ℕ
+messageLimit = 262144
+
+-- values open at once
+unfoldable pub openLimit : ℕ
+openLimit = 64
+
+-- ---- numbers per entry
+
+abbrev pub rowWidth : ℕ
+rowWidth = 12
+
+abbrev pub spanWidth : ℕ
+spanWidth = 2
+
+abbrev pub traitWidth : ℕ
+traitWidth = 5
+
+-- ---- the columns of a row
+
+abbrev pub colKind : ℕ
+colKind = 0
+
+abbrev pub colKeyMark : ℕ
+colKeyMark = 1
+
+abbrev pub colKeyBegin : ℕ
+colKeyBegin = 2
+
+abbrev pub colKeySize : ℕ
+colKeySize = 3
+
+abbrev pub colBodyBegin : ℕ
+colBodyBegin = 4
+
+abbrev pub colBodySize : ℕ
+colBodySize = 5
+
+abbrev pub colClassMark : ℕ
+colClassMark = 6
+
+abbrev pub colFlag : ℕ
+colFlag = 7
+
+abbrev pub colNumber : ℕ
+colNumber = 8
+
+abbrev pub colCount : ℕ
+colCount = 9
+
+abbrev pub colCount2 : ℕ
+colCount2 = 10
+
+abbrev pub colEnd : ℕ
+colEnd = 11
+
+-- ---- the loans
+
+-- 1 rows, 2 byte store, 3 strings, 4 objects, 5 traits, 6 trait field names
+pub record Memory : Type 0 where
+  pub rows : List ℕ
+  pub store : List ℕ
+  pub strings : List ℕ
+  pub objects : List ℕ
+  pub traits : List ℕ
+  pub names : List ℕ
+
+-- a loan of n numbers, w to an entry, is over its maximum or not whole entries
+abbrev pub faulty : ℕ → ℕ → ℕ → Bool
+faulty most w n = ltb (most * w) n || not (eqb (n % w) 0)
+
+-- refusal 1: the lowest faulty loan, 0 where there is none
+unfoldable pub loanFault : ℕ → ℕ → ℕ → ℕ → ℕ → ℕ → ℕ
+loanFault rows store strings objects traits names =
+    cond (faulty 16384 rowWidth rows) 1
+    (cond (faulty 65536 1 store) 2
+    (cond (faulty 4096 spanWidth strings) 3
+    (cond (faulty 4096 1 objects) 4
+    (cond (faulty 256 traitWidth traits) 5
+    (cond (faulty 4096 spanWidth names) 6 0)))))
+
+abbrev pub faultOf : Memory → ℕ
+faultOf m = loanFault (length (m .rows)) (length (m .store)) (length (m .strings)) (length (m .objects)) (length (m .traits)) (length (m .names))
+
+abbrev pub zeros : List ℕ → List ℕ
+zeros l = replicate (length l) 0
+
+abbrev pub cursor : ℕ → ℕ → ℕ → ℕ → ℕ → ℕ → ℕ → Cursor
+cursor at rows store strings objects traits names =
+    record { at = at; rows = rows; store = store; strings = strings; objects = objects; traits = traits; names = names }
+
+-- nothing taken and nothing used
+abbrev pub fresh : Cursor
+fresh = cursor 0 0 0 0 0 0 0
+
+abbrev pub memory : List ℕ → List ℕ → List ℕ → List ℕ → List ℕ → List ℕ → Memory
+memory R B T O U N = record { rows = R; store = B; strings = T; objects = O; traits = U; names = N }
+
+-- every loan set to zero
+unfoldable pub zeroed : Memory → Memory
+zeroed m = memory (zeros (m .rows)) (zeros (m .store)) (zeros (m .strings)) (zeros (m .objects)) (zeros (m .traits)) (zeros (m .names))
+
+-- ---- rows and spans
+
+abbrev pub cell : List ℕ → ℕ → ℕ → ℕ
+cell R row col = getD R (row * rowWidth + col) 0
+
+abbrev pub put : List ℕ → ℕ → ℕ → ℕ → List ℕ
+put R row col v = set R (row * rowWidth + col) v
+
+-- row is used, and lent
+abbrev pub rowUsed : List ℕ → Cursor → ℕ → Bool
+rowUsed R c row = ltb row (c .rows) && leb (c .rows) (length R / rowWidth)
+
+abbrev pub span : ℕ → ℕ → Span
+span begin size = record { begin = begin; size = size }
+
+abbrev pub noSpan : Span
+noSpan = span 0 0
+
+abbrev pub noKey : Key
+noKey = record { mark = 0; begin = 0; size = 0 }
+
+abbrev pub keyOf : Span → Key
+keyOf s = record { mark = 1; begin = s .begin; size = s .size }
+
+-- span i of a table of spans
+abbrev pub spanAt : List ℕ → ℕ → Span
+spanAt T i = span (getD T (i * spanWidth) 0) (getD T (i * spanWidth + 1) 0)
+
+-- s lies in the used part of the store
+abbrev pub spanUsed : Cursor → Span → Bool
+spanUsed c s = leb (s .begin + s .size) (c .store)
