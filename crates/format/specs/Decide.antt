@@ -10,31 +10,8 @@ use Rattle.rows.specs.declared.Cursor.{Cursor}
 use Rattle.rows.specs.declared.Span.{Span}
 use Rattle.rows.specs.declared.Key.{Key}
 use Rattle.rows.specs.declared.Trait.{Trait}
-use Rattle.rows.specs.Memory.{
-  Memory,
-  memory,
-  cursor,
-  messageLimit,
-  rowWidth,
-  spanWidth,
-  traitWidth,
-  colKind,
-  colBodyBegin,
-  colBodySize,
-  colClassMark,
-  colFlag,
-  colNumber,
-  colCount,
-  colEnd,
-  cell,
-  put,
-  rowUsed,
-  span,
-  noSpan,
-  keyOf,
-  spanAt,
-  spanUsed,
-}
+use Rattle.rows.specs.Memory.{Memory, memory, cursor, messageLimit, rowWidth, spanWidth, traitWidth, colKind, colBodyBegin, colBodySize, colClassMark}
+use Rattle.rows.specs.Memory.{colFlag, colNumber, colCount, colEnd, cell, put, rowUsed, span, noSpan, keyOf, spanAt, spanUsed}
 use Rattle.wire.specs.declared.Date.{Date}
 use Rattle.wire.specs.declared.Date.the-variants.{Millis, Refused}
 use Rattle.wire.specs.Sign.{integerOf, columnOf}

@@ -16,60 +16,10 @@ use Rattle.format.specs.declared.Head.{Head}
 use Rattle.format.specs.declared.Frame.{Frame}
 use Rattle.format.specs.Decide.{Body, xml, date, array, bytes, raw, objects, dictionary, four, eight}
 use Rattle.format.specs.Reading.{finished, refused}
-use Rattle.format.specs.Step.{
-  Pairing,
-  assoc,
-  dynamics,
-  Items,
-  dense,
-  vector,
-  Task,
-  pairsOf,
-  itemsOf,
-  membersOf,
-  keysOf,
-  valuesOf,
-  strange,
-  Use,
-  forString,
-  forKey,
-  forClass,
-  forExternal,
-  forName,
-  forVector,
-  Text,
-  xmlText,
-  tableText,
-  Word,
-  integerWord,
-  objectWord,
-  sizeWord,
-  textWord,
-  Number,
-  doubleBits,
-  dateBits,
-  Flag,
-  rawFlag,
-  objectsFlag,
-  dictionaryFlag,
-  Raw,
-  byteArray,
-  rawVector,
-  Mode,
-  atMarker,
-  atWord,
-  atNumber,
-  atFlag,
-  atText,
-  atRaw,
-  astray,
-  State,
-  wait,
-  over,
-  none,
-  broken,
-  step,
-}
+use Rattle.format.specs.Step.{Pairing, assoc, dynamics, Items, dense, vector, Task, pairsOf, itemsOf, membersOf, keysOf, valuesOf, strange, Use}
+use Rattle.format.specs.Step.{forString, forKey, forClass, forExternal, forName, forVector, Text, xmlText, tableText, Word, integerWord, objectWord}
+use Rattle.format.specs.Step.{sizeWord, textWord, Number, doubleBits, dateBits, Flag, rawFlag, objectsFlag, dictionaryFlag, Raw, byteArray, rawVector}
+use Rattle.format.specs.Step.{Mode, atMarker, atWord, atNumber, atFlag, atText, atRaw, astray, State, wait, over, none, broken, step}
 
 -- the head, and the frames of the open values, outermost first, each of six numbers
 pub record Numbers : Type 0 where

@@ -18,64 +18,10 @@ use Rattle.wire.specs.U29.{partOf}
 use Rattle.wire.specs.Word.{sizeOf, shapeOf}
 use Rattle.wire.specs.Big.{digitOf}
 use Rattle.utf8.specs.States.{stepOf}
-use Rattle.format.specs.Decide.{
-  Out,
-  stop,
-  give,
-  refuse,
-  lost,
-  Decision,
-  looking,
-  onRows,
-  onStore,
-  onStrings,
-  onObjects,
-  onTraits,
-  onNames,
-  widthOf,
-  Body,
-  xml,
-  date,
-  array,
-  bytes,
-  raw,
-  objects,
-  dictionary,
-  Kind,
-  leaf,
-  integer,
-  double,
-  string,
-  object,
-  sized,
-  kindOf,
-  marker,
-  closed,
-  numbered,
-  integerEnd,
-  dateEnd,
-  bodied,
-  objectClass,
-  vectorClass,
-  fixed,
-  weak,
-  flagged,
-  counted,
-  grown,
-  oldText,
-  reserved,
-  stored,
-  judged,
-  textEnd,
-  entered,
-  referred,
-  oldTrait,
-  traitOf,
-  named,
-  traitEnd,
-  sealedKey,
-  starred,
-}
+use Rattle.format.specs.Decide.{Out, stop, give, refuse, lost, Decision, looking, onRows, onStore, onStrings, onObjects, onTraits, onNames, widthOf}
+use Rattle.format.specs.Decide.{Body, xml, date, array, bytes, raw, objects, dictionary, Kind, leaf, integer, double, string, object, sized, kindOf}
+use Rattle.format.specs.Decide.{marker, closed, numbered, integerEnd, dateEnd, bodied, objectClass, vectorClass, fixed, weak, flagged, counted, grown}
+use Rattle.format.specs.Decide.{oldText, reserved, stored, judged, textEnd, entered, referred, oldTrait, traitOf, named, traitEnd, sealedKey, starred}
 
 -- ---- readers: bytes in, a result out
 

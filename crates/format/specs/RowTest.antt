@@ -5,20 +5,8 @@ use Prim.Native.Nat.{ℕ, zero, suc, _+_, _*_, _-_, _^_}
 use lib.Dec.{leb, ltb, eqb}
 use lib.ListN.{length, getD}
 use lib.Signed.{mag}
-use Rattle.rows.specs.Memory.{
-  colKind,
-  colKeyMark,
-  colKeyBegin,
-  colKeySize,
-  colBodyBegin,
-  colBodySize,
-  colClassMark,
-  colFlag,
-  colNumber,
-  colCount,
-  colCount2,
-  colEnd,
-}
+use Rattle.rows.specs.Memory.{colKind, colKeyMark, colKeyBegin, colKeySize, colBodyBegin, colBodySize, colClassMark, colFlag, colNumber, colCount}
+use Rattle.rows.specs.Memory.{colCount2, colEnd}
 use Rattle.wire.specs.Sign.{ofColumn}
 use Rattle.utf8.specs.Grammar.{validText}
 use Rattle.format.specs.Unfold.{rowsIn, col, bodyOf, keyText, kindReference}

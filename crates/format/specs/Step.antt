@@ -19,65 +19,11 @@ use Rattle.wire.specs.U29.{partOf}
 use Rattle.wire.specs.Word.{sizeOf, shapeOf}
 use Rattle.wire.specs.Big.{digitOf}
 use Rattle.utf8.specs.States.{stepOf}
-use Rattle.format.specs.Decide.{
-  Out,
-  stop,
-  give,
-  refuse,
-  lost,
-  Decision,
-  looking,
-  onRows,
-  onStore,
-  onStrings,
-  onObjects,
-  onTraits,
-  onNames,
-  Width,
-  widthOf,
-  Body,
-  xml,
-  date,
-  array,
-  bytes,
-  raw,
-  objects,
-  dictionary,
-  Kind,
-  leaf,
-  integer,
-  double,
-  string,
-  object,
-  sized,
-  kindOf,
-  marker,
-  closed,
-  numbered,
-  integerEnd,
-  dateEnd,
-  bodied,
-  objectClass,
-  vectorClass,
-  fixed,
-  weak,
-  flagged,
-  counted,
-  grown,
-  oldText,
-  reserved,
-  stored,
-  judged,
-  textEnd,
-  entered,
-  referred,
-  oldTrait,
-  traitOf,
-  named,
-  traitEnd,
-  sealedKey,
-  starred,
-}
+use Rattle.format.specs.Decide.{Out, stop, give, refuse, lost, Decision, looking, onRows, onStore, onStrings, onObjects, onTraits, onNames, Width}
+use Rattle.format.specs.Decide.{widthOf, Body, xml, date, array, bytes, raw, objects, dictionary, Kind, leaf, integer, double, string, object, sized}
+use Rattle.format.specs.Decide.{kindOf, marker, closed, numbered, integerEnd, dateEnd, bodied, objectClass, vectorClass, fixed, weak, flagged}
+use Rattle.format.specs.Decide.{counted, grown, oldText, reserved, stored, judged, textEnd, entered, referred, oldTrait, traitOf, named, traitEnd}
+use Rattle.format.specs.Decide.{sealedKey, starred}
 use Rattle.format.specs.Reading.{Ended, finished, refused, refusal, taken}
 
 -- ---- what a state holds

@@ -5,52 +5,12 @@ use mathlib.Core.Option.{Option, none, some}
 use Prim.Native.Nat.{ℕ, zero, suc, _+_, _*_, _/_}
 use lib.Dec.{leb, ltb, eqb}
 use lib.ListN.{length, getD, take, drop}
-use Rattle.rows.specs.Memory.{
-  rowWidth,
-  colKind,
-  colKeyBegin,
-  colKeySize,
-  colBodyBegin,
-  colBodySize,
-  colClassMark,
-  colFlag,
-  colNumber,
-  colCount,
-  colCount2,
-  colEnd,
-}
+use Rattle.rows.specs.Memory.{rowWidth, colKind, colKeyBegin, colKeySize, colBodyBegin, colBodySize, colClassMark, colFlag, colNumber, colCount, colCount2}
+use Rattle.rows.specs.Memory.{colEnd}
 use Rattle.wire.specs.Sign.{ofColumn}
-use Rattle.format.specs.Standard.{
-  Plain,
-  undefined,
-  null,
-  boolean,
-  integer,
-  double,
-  string,
-  xmlDocument,
-  xml,
-  byteArray,
-  date,
-  intVector,
-  uintVector,
-  doubleVector,
-  Tree,
-  plain,
-  array,
-  object,
-  objectVector,
-  dictionary,
-  Trees,
-  nil,
-  cons,
-  Pairs,
-  noPairs,
-  pair,
-  Entries,
-  noEntries,
-  entry,
-}
+use Rattle.format.specs.Standard.{Plain, undefined, null, boolean, integer, double, string, xmlDocument, xml, byteArray, date, intVector, uintVector}
+use Rattle.format.specs.Standard.{doubleVector, Tree, plain, array, object, objectVector, dictionary, Trees, nil, cons, Pairs, noPairs, pair, Entries}
+use Rattle.format.specs.Standard.{noEntries, entry}
 
 -- how many rows there are
 abbrev pub rowsIn : List ℕ → ℕ

@@ -5,29 +5,8 @@ use Prim.Native.Nat.{ℕ, zero, suc}
 use lib.Dec.{leb}
 use lib.ListN.{length, drop}
 use Rattle.rows.specs.Memory.{openLimit, faultOf, memory}
-use Rattle.format.specs.Standard.{
-  Tree,
-  plain,
-  array,
-  object,
-  objectVector,
-  dictionary,
-  Trees,
-  nil,
-  cons,
-  Pairs,
-  noPairs,
-  pair,
-  Entries,
-  noEntries,
-  entry,
-  textBytes,
-  encodePlain,
-  arrayHead,
-  objectHead,
-  vectorHead,
-  dictionaryHead,
-}
+use Rattle.format.specs.Standard.{Tree, plain, array, object, objectVector, dictionary, Trees, nil, cons, Pairs, noPairs, pair, Entries, noEntries}
+use Rattle.format.specs.Standard.{entry, textBytes, encodePlain, arrayHead, objectHead, vectorHead, dictionaryHead}
 use Rattle.format.specs.Unfold.{unfolded}
 use Rattle.format.specs.RowTest.{Tested, fine, faulty, tested}
 
