@@ -41,6 +41,7 @@ row kind key begin size number count count2 end = kind ∷ key ++ begin ∷ size
 abbrev keyless : List ℕ
 keyless = 0 ∷ 0 ∷ 0 ∷ []
 
+-- those marked to be proved, two that are not, and three more: a sealed member, a vector of class `*`, a reference
 abbrev pub examples : List Example
 examples =
     example [] (refuses 2 0 0)
@@ -59,6 +60,12 @@ examples =
     (gives 8 (row 10 keyless 0 0 0 0 1 2 ∷ row 4 (1 ∷ 0 ∷ 1 ∷ []) 0 0 1 0 0 2 ∷ []) (0x61 ∷ []) (0 ∷ 1 ∷ []) (0 ∷ []) (0 ∷ 0 ∷ 1 ∷ 0 ∷ 0 ∷ []) [])
     ∷ example (0x12 ∷ []) (refuses 3 0x12 1)
     ∷ example (0x08 ∷ 0x01 ∷ 0x80 ∷ replicate 7 0x00) (refuses 7 (2 ^ 63) 10)
+    ∷ example (0x0A ∷ 0x13 ∷ 0x01 ∷ 0x03 ∷ 0x61 ∷ 0x04 ∷ 0x01 ∷ [])
+    (gives 7 (row 10 keyless 0 0 0 1 0 2 ∷ row 4 (1 ∷ 0 ∷ 1 ∷ []) 0 0 1 0 0 2 ∷ []) (0x61 ∷ []) (0 ∷ 1 ∷ []) (0 ∷ []) (0 ∷ 0 ∷ 0 ∷ 0 ∷ 1 ∷ []) (0 ∷ 1 ∷ []))
+    ∷ example (0x10 ∷ 0x03 ∷ 0x00 ∷ 0x03 ∷ 0x2A ∷ 0x01 ∷ [])
+    (gives 6 (row 16 keyless 0 0 0 1 0 2 ∷ row 2 keyless 0 0 0 0 0 2 ∷ []) (0x2A ∷ []) (0 ∷ 1 ∷ []) (0 ∷ []) [] [])
+    ∷ example (0x09 ∷ 0x05 ∷ 0x01 ∷ 0x09 ∷ 0x01 ∷ 0x01 ∷ 0x09 ∷ 0x02 ∷ [])
+    (gives 8 (row 9 keyless 0 0 0 0 2 3 ∷ row 9 keyless 0 0 0 0 0 2 ∷ row 18 keyless 0 0 1 0 0 3 ∷ []) [] [] (0 ∷ 1 ∷ []) [] [])
     ∷ []
 
 -- ---- the loans: four rows, sixteen bytes, and a few entries of the others, with something else in them before
