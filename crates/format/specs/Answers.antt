@@ -15,6 +15,7 @@ use Rattle.format.specs.Reading.{Ended, finished, refused, reading}
 use Rattle.format.specs.Step as step
 use Rattle.format.specs.Step.{State, wait, over, none}
 use Rattle.format.specs.Numbers.{Numbers, Held, held, head, noWork, frameWidth, lentOf, stateOf, afterStep, byteStep}
+use Rattle.format.specs.Text.{textOr}
 use Rattle.format.specs.Writing.{Wrote, written, unwritten, writing}
 
 -- ---- begin, feed and end
@@ -78,7 +79,7 @@ endOf s m (none m′) = answered (afterStep s (over (step.end (none m′)))) 0
 unfoldable pub endCall : Numbers → Memory → Fed
 endCall s m = endOf s m (stateOf s m)
 
--- ---- read and write
+-- ---- read, write and text
 
 pub data Read : Type 0 where
   read : Answer → Memory → Read
@@ -100,3 +101,7 @@ writtenOf (unwritten number told place out) = output (Unwritten number told plac
 
 unfoldable pub writeCall : List ℕ → List ℕ → List ℕ → Output
 writeCall rows store out = writtenOf (writing rows store out)
+
+-- a part of the store or of the default
+abbrev pub textCall : List ℕ → List ℕ → ℕ → List ℕ → List ℕ
+textCall = textOr

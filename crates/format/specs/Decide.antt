@@ -12,6 +12,7 @@ use Rattle.rows.specs.declared.Key.{Key}
 use Rattle.rows.specs.declared.Trait.{Trait}
 use Rattle.rows.specs.Memory.{Memory, memory, cursor, messageLimit, rowWidth, spanWidth, traitWidth, colKind, colBodyBegin, colBodySize, colClassMark}
 use Rattle.rows.specs.Memory.{colFlag, colNumber, colCount, colEnd, cell, put, rowUsed, span, noSpan, keyOf, spanAt, spanUsed}
+use Rattle.rows.specs.Kinds.{kindReference}
 use Rattle.wire.specs.declared.Date.{Date}
 use Rattle.wire.specs.declared.Date.the-variants.{Millis, Refused}
 use Rattle.wire.specs.Sign.{integerOf, columnOf}
@@ -207,7 +208,7 @@ referred row i O R c =
     (cond (not (rowUsed R c (getD O i 0))) lost
     (cond (ltb (c .rows) (cell R (getD O i 0) colEnd)) lost
     (cond (eqb (cell R (getD O i 0) colEnd) 0) (refuse 5 i c)
-    (inRow row (λ R. put (put (put R row colKind 18) row colNumber (getD O i 0)) row colEnd (c .rows)) R c)))))
+    (inRow row (λ R. put (put (put R row colKind kindReference) row colNumber (getD O i 0)) row colEnd (c .rows)) R c)))))
 
 -- ---- traits
 

@@ -7,4 +7,5 @@ pub mod Unfold
 pub mod RowTest
 pub mod Writing
 pub mod Text
+pub mod Holds
 pub mod Answers

@@ -73,6 +73,15 @@ pub record Tables : Type 0 where
 abbrev pub noTables : Tables
 noTables = record { texts = []; objects = []; traits = [] }
 
+abbrev pub withText : List ℕ → Tables → Tables
+withText t s = record { texts = s .texts ++ t ∷ []; objects = s .objects; traits = s .traits }
+
+abbrev pub withObjects : List (Option Tree) → Tables → Tables
+withObjects o s = record { texts = s .texts; objects = o; traits = s .traits }
+
+abbrev pub withTraits : Traits → Tables → Tables
+withTraits t s = record { texts = s .texts; objects = s .objects; traits = s .traits ++ t ∷ [] }
+
 -- readers over the tables and the bytes taken
 abbrev pub Std : Type 0 → Type 0
 Std A = ReaderOf Tables ℕ A
@@ -118,7 +127,7 @@ chars n = do
 -- an empty string never enters the table
 unfoldable pub entered : List ℕ → Std (List ℕ)
 entered [] = ret []
-entered (b ∷ t) = change (b ∷ t) (λ s. record { texts = s .texts ++ (b ∷ t) ∷ []; objects = s .objects; traits = s .traits })
+entered (b ∷ t) = change (b ∷ t) (withText (b ∷ t))
 
 unfoldable pub textOf : Size → Std (List ℕ)
 textOf (Old i) = lookup (λ s. s .texts) [] i
@@ -135,11 +144,11 @@ text = do
 
 -- a new object, still open: its number
 unfoldable pub opened : Std ℕ
-opened s p bs = ok (length (s .objects)) (record { texts = s .texts; objects = s .objects ++ none ∷ []; traits = s .traits }) p bs
+opened s p bs = ok (length (s .objects)) (withObjects (s .objects ++ none ∷ []) s) p bs
 
 -- object i is this tree
 unfoldable pub shut : ℕ → Tree → Std Tree
-shut i t = change t (λ s. record { texts = s .texts; objects = set (s .objects) i (some t); traits = s .traits })
+shut i t = change t (λ s. withObjects (set (s .objects) i (some t)) s)
 
 unfoldable pub finishedObject : ℕ → Option Tree → Std Tree
 finishedObject i none = fail 5 i
@@ -157,23 +166,28 @@ names (suc n) = do
   xs ← names n
   ret (x ∷ xs)
 
+unfoldable pub enterTraits : Traits → Std Traits
+enterTraits t = change t (withTraits t)
+
 -- a new trait, entered after its last name
 unfoldable pub newTraits : ℕ → ℕ → Std Traits
 newTraits n dynamic = do
   x ← text
   xs ← names n
-  change (record { class = x; dynamic = dynamic; names = xs })
-      (λ s. record { texts = s .texts; objects = s .objects; traits = s .traits ++ (record { class = x; dynamic = dynamic; names = xs }) ∷ [] })
+  enterTraits (record { class = x; dynamic = dynamic; names = xs })
 
 -- an empty class name means none; so does `*` for a vector
 unfoldable pub given : List ℕ → Option (List ℕ)
 given [] = none
 given (b ∷ t) = some (b ∷ t)
 
+abbrev pub isStar : List ℕ → Bool
+isStar [] = false
+isStar (b ∷ []) = eqb b 0x2A
+isStar (b ∷ c ∷ t) = false
+
 unfoldable pub starred : List ℕ → Option (List ℕ)
-starred [] = some []
-starred (b ∷ []) = cond (eqb b 0x2A) none (some (b ∷ []))
-starred (b ∷ c ∷ t) = some (b ∷ c ∷ t)
+starred t = cond (isStar t) none (some t)
 
 -- ---- entries; `value` reads one value
 
@@ -350,8 +364,8 @@ abbrev pub flagByte : Bool → ℕ
 flagByte b = cond b 1 0
 
 abbrev pub classBytes : List ℕ → Option (List ℕ) → List ℕ
-classBytes none′ none = textBytes none′
-classBytes none′ (some t) = textBytes t
+classBytes default none = textBytes default
+classBytes default (some t) = textBytes t
 
 -- the word of a new trait: an object without dynamic members is written as not dynamic
 unfoldable pub traitWord : Pairs → Pairs → ℕ

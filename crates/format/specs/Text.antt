@@ -1,28 +1,26 @@
 -- Text access: a row's part of the store, or the caller's own default.
-use mathlib.Core.Bool.{Bool, true, false, cond, _&&_, _||_}
-use mathlib.Core.List.{List, []}
-use Prim.Native.Nat.{ℕ, zero, suc, _+_}
-use lib.Dec.{leb, ltb, eqb}
+use mathlib.Core.Bool.{cond, _&&_}
+use mathlib.Core.List.{List}
+use Prim.Native.Nat.{ℕ, _+_}
+use lib.Dec.{leb, eqb}
 use lib.ListN.{length}
-use Rattle.rows.specs.Memory.{faultOf, memory, colKind, colBodyBegin, colBodySize}
-use Rattle.format.specs.Unfold.{rowsIn, col, home, part}
+use Rattle.rows.specs.Memory.{rowsFault, colKind, colBodyBegin, colBodySize}
+use Rattle.format.specs.Unfold.{col, home, part}
+use Rattle.format.specs.RowTest.{hasText}
 
--- string, XMLDocument and XML have text
-unfoldable pub hasText : ℕ → Bool
-hasText kind = eqb kind 6 || eqb kind 7 || eqb kind 11
-
--- the span of row i's text, found or not
+-- the span of a row's text, or there is none
 pub data Found : Type 0 where
   nowhere : Found
   found : ℕ → ℕ → Found
 
--- a reference answers as its target; row past the rows, no text there, span past the store: nowhere
+-- row i is there, and has text, whose span is within the store
+abbrev pub textIn : List ℕ → List ℕ → ℕ → Found
+textIn R B i =
+    cond (hasText (col R i colKind) && leb (col R i colBodyBegin + col R i colBodySize) (length B)) (found (col R i colBodyBegin) (col R i colBodySize)) nowhere
+
+-- a reference answers as its target, which has no text where it is past the rows or a reference itself; so has a loan that 1 refuses
 unfoldable pub textSpan : List ℕ → List ℕ → ℕ → Found
-textSpan R B i =
-    cond (eqb (faultOf (memory R B [] [] [] [])) 0)
-    (cond (ltb i (rowsIn R) && hasText (col R (home R i) colKind) && leb (col R (home R i) colBodyBegin + col R (home R i) colBodySize) (length B))
-    (found (col R (home R i) colBodyBegin) (col R (home R i) colBodySize)) nowhere)
-    nowhere
+textSpan R B i = cond (eqb (rowsFault R B) 0) (textIn R B (home R i)) nowhere
 
 -- that part of the store, or the default
 abbrev pub textFrom : Found → List ℕ → List ℕ → List ℕ

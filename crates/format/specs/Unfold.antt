@@ -7,6 +7,7 @@ use lib.Dec.{leb, ltb, eqb}
 use lib.ListN.{length, getD, take, drop}
 use Rattle.rows.specs.Memory.{rowWidth, colKind, colKeyBegin, colKeySize, colBodyBegin, colBodySize, colClassMark, colFlag, colNumber, colCount, colCount2}
 use Rattle.rows.specs.Memory.{colEnd}
+use Rattle.rows.specs.Kinds.{kindReference}
 use Rattle.wire.specs.Sign.{ofColumn}
 use Rattle.format.specs.Standard.{Plain, undefined, null, boolean, integer, double, string, xmlDocument, xml, byteArray, date, intVector, uintVector}
 use Rattle.format.specs.Standard.{doubleVector, Tree, plain, array, object, objectVector, dictionary, Trees, nil, cons, Pairs, noPairs, pair, Entries}
@@ -33,13 +34,10 @@ keyText R B i = part B (col R i colKeyBegin) (col R i colKeySize)
 abbrev pub classText : List ℕ → List ℕ → ℕ → Option (List ℕ)
 classText R B i = cond (eqb (col R i colClassMark) 0) none (some (bodyOf R B i))
 
-abbrev pub isFlag : List ℕ → ℕ → Bool
-isFlag R i = not (eqb (col R i colFlag) 0)
+abbrev pub flagSet : List ℕ → ℕ → Bool
+flagSet R i = not (eqb (col R i colFlag) 0)
 
--- the kind of a reference row, and the row that stands for a row
-abbrev pub kindReference : ℕ
-kindReference = 18
-
+-- the row that stands for a row
 unfoldable pub home : List ℕ → ℕ → ℕ
 home R i = cond (eqb (col R i colKind) kindReference) (col R i colNumber) i
 
@@ -64,17 +62,28 @@ entriesAt f R k (suc n) = entry (f k) (f (col R k colEnd)) (entriesAt f R (col R
 
 -- ---- a row's tree
 
--- by its kind, 1 to 17
+-- by its kind; 0 is none
 unfoldable pub node : (ℕ → Tree) → List ℕ → List ℕ → ℕ → Tree
 node f R B i =
-    getD ((plain null) ∷ plain undefined ∷ plain null ∷ plain (boolean (not (eqb (col R i colNumber) 0))) ∷ plain (integer (ofColumn (col R i colNumber)))
-    ∷ plain (double (col R i colNumber)) ∷ plain (string (bodyOf R B i)) ∷ plain (xmlDocument (bodyOf R B i)) ∷ plain (date (col R i colNumber))
+    getD (plain null
+    ∷ plain undefined
+    ∷ plain null
+    ∷ plain (boolean (not (eqb (col R i colNumber) 0)))
+    ∷ plain (integer (ofColumn (col R i colNumber)))
+    ∷ plain (double (col R i colNumber))
+    ∷ plain (string (bodyOf R B i))
+    ∷ plain (xmlDocument (bodyOf R B i))
+    ∷ plain (date (col R i colNumber))
     ∷ array (pairsAt f R B (i + 1) (col R i colCount)) (treesAt f R (after R (i + 1) (col R i colCount)) (col R i colCount2))
     ∷ object (classText R B i) (pairsAt f R B (i + 1) (col R i colCount)) (pairsAt f R B (after R (i + 1) (col R i colCount)) (col R i colCount2))
-    ∷ plain (xml (bodyOf R B i)) ∷ plain (byteArray (bodyOf R B i)) ∷ plain (intVector (isFlag R i) (bodyOf R B i))
-    ∷ plain (uintVector (isFlag R i) (bodyOf R B i)) ∷ plain (doubleVector (isFlag R i) (bodyOf R B i))
-    ∷ objectVector (isFlag R i) (classText R B i) (treesAt f R (i + 1) (col R i colCount))
-    ∷ dictionary (isFlag R i) (entriesAt f R (i + 1) (col R i colCount)) ∷ []) (col R i colKind) (plain null)
+    ∷ plain (xml (bodyOf R B i))
+    ∷ plain (byteArray (bodyOf R B i))
+    ∷ plain (intVector (flagSet R i) (bodyOf R B i))
+    ∷ plain (uintVector (flagSet R i) (bodyOf R B i))
+    ∷ plain (doubleVector (flagSet R i) (bodyOf R B i))
+    ∷ objectVector (flagSet R i) (classText R B i) (treesAt f R (i + 1) (col R i colCount))
+    ∷ dictionary (flagSet R i) (entriesAt f R (i + 1) (col R i colCount))
+    ∷ []) (col R i colKind) (plain null)
 
 -- to so many levels
 unfoldable pub treeAt : ℕ → List ℕ → List ℕ → ℕ → Tree

@@ -4,7 +4,7 @@ use mathlib.Core.List.{List, [], _∷_, _++_}
 use Prim.Native.Nat.{ℕ, zero, suc}
 use lib.Dec.{leb}
 use lib.ListN.{length, drop}
-use Rattle.rows.specs.Memory.{openLimit, faultOf, memory}
+use Rattle.rows.specs.Memory.{openLimit, rowsFault}
 use Rattle.format.specs.Standard.{Tree, plain, array, object, objectVector, dictionary, Trees, nil, cons, Pairs, noPairs, pair, Entries, noEntries}
 use Rattle.format.specs.Standard.{entry, textBytes, encodePlain, arrayHead, objectHead, vectorHead, dictionaryHead}
 use Rattle.format.specs.Unfold.{unfolded}
@@ -95,4 +95,4 @@ afterFault zero out w = w
 afterFault (suc loan) out w = unwritten 1 (suc loan) 0 out
 
 unfoldable pub writing : List ℕ → List ℕ → List ℕ → Wrote
-writing R B out = afterFault (faultOf (memory R B [] [] [] [])) out (afterTest (tested R B) (emit openLimit (unfolded R B 0)) out)
+writing R B out = afterFault (rowsFault R B) out (afterTest (tested R B) (emit openLimit (unfolded R B 0)) out)

@@ -96,6 +96,10 @@ loanFault rows store strings objects traits names =
 abbrev pub faultOf : Memory → ℕ
 faultOf m = loanFault (length (m .rows)) (length (m .store)) (length (m .strings)) (length (m .objects)) (length (m .traits)) (length (m .names))
 
+-- the writer is lent rows and a store
+abbrev pub rowsFault : List ℕ → List ℕ → ℕ
+rowsFault R B = loanFault (length R) (length B) 0 0 0 0
+
 abbrev pub zeros : List ℕ → List ℕ
 zeros l = replicate (length l) 0
 
