@@ -4,10 +4,12 @@ use mathlib.Core.List.{List, [], _∷_}
 use Prim.Native.Nat.{ℕ, zero, suc, _+_, _*_, _/_, _%_}
 use lib.Dec.{leb, ltb, eqb}
 use lib.ListN.{length, getD, set, replicate}
+use lib.Seq.{sets}
 use Rattle.rows.specs.declared.Cursor.{Cursor}
 use Rattle.rows.specs.declared.Span.{Span}
 use Rattle.rows.specs.declared.Key.{Key}
 use Rattle.rows.specs.declared.Trait.{Trait}
+use Rattle.rows.specs.declared.Row.{Row}
 
 -- ---- limits
 
@@ -125,6 +127,18 @@ cell R row col = getD R (row * rowWidth + col) 0
 
 abbrev pub put : List ℕ → ℕ → ℕ → ℕ → List ℕ
 put R row col v = set R (row * rowWidth + col) v
+
+-- a row's numbers, in the order of the columns
+abbrev pub numbersOf : Row → List ℕ
+numbersOf v =
+    v .kind ∷ v .key .mark ∷ v .key .begin ∷ v .key .size ∷ v .body .begin ∷ v .body .size ∷ v .class ∷ v .flag ∷ v .number ∷ v .count ∷ v .count2 ∷ v .end ∷ []
+
+-- a whole row, and one column, where the row is lent
+unfoldable pub putRow : List ℕ → ℕ → Row → List ℕ
+putRow R row v = cond (ltb row (length R / rowWidth)) (sets R (row * rowWidth) (numbersOf v)) R
+
+unfoldable pub columnAt : List ℕ → ℕ → ℕ → ℕ
+columnAt R row col = cond (ltb row (length R / rowWidth)) (cond (ltb col rowWidth) (cell R row col) 0) 0
 
 -- row is used, and lent
 abbrev pub rowUsed : List ℕ → Cursor → ℕ → Bool

@@ -1,5 +1,17 @@
 // What a reading holds beside the six loans, and the parts of a row: plain numbers, by value.
 
+ghost use mathlib.Core.Path.{_≡_};
+ghost use mathlib.Core.Bool.{not, _&&_, _||_};
+ghost use Prim.Native.Nat.{_<_, _/_, _%_};
+ghost use lib.Dec.{leb, ltb, eqb};
+ghost use Rattle.rows.specs.Memory.{rowWidth, loanFault, zeros, putRow, columnAt};
+
+const ROW_WIDTH: usize = 12;
+
+const SPAN_WIDTH: usize = 2;
+
+const TRAIT_WIDTH: usize = 5;
+
 // The bytes taken, and how many entries of each loan are used.
 pub struct Cursor {
     pub at: usize,
@@ -31,4 +43,127 @@ pub struct Trait {
     pub dynamic: usize,
     pub first: usize,
     pub count: usize,
+}
+
+// A row's columns.
+pub struct Row {
+    pub kind: usize,
+    pub key: Key,
+    pub body: Span,
+    pub class: usize,
+    pub flag: usize,
+    pub number: usize,
+    pub count: usize,
+    pub count2: usize,
+    pub end: usize,
+}
+
+// ---- loans
+
+// A loan of `n` numbers, `width` to an entry, is longer than `most` numbers or not whole entries.
+fn faulty(n: usize, width: usize, most: usize) -> bool
+    requires { ⌜ 0 < width ⌝ }
+    ensures { λ r. ⌜ r ≡ (ltb most n || not (eqb (n % width) 0)) ⌝ }
+{
+    if most < n {
+        return true;
+    }
+    n % width != 0
+}
+
+// Refusal 1: the lowest faulty loan of those with these lengths, or 0.
+pub fn loan_fault(
+    rows: usize,
+    store: usize,
+    strings: usize,
+    objects: usize,
+    traits: usize,
+    names: usize,
+) -> usize
+    ensures { λ r. ⌜ r ≡ loanFault rows store strings objects traits names ⌝ }
+{
+    if faulty(rows, ROW_WIDTH, 16384 * ROW_WIDTH) {
+        return 1;
+    }
+    if faulty(store, 1, 65536) {
+        return 2;
+    }
+    if faulty(strings, SPAN_WIDTH, 4096 * SPAN_WIDTH) {
+        return 3;
+    }
+    if faulty(objects, 1, 4096) {
+        return 4;
+    }
+    if faulty(traits, TRAIT_WIDTH, 256 * TRAIT_WIDTH) {
+        return 5;
+    }
+    if faulty(names, SPAN_WIDTH, 4096 * SPAN_WIDTH) {
+        return 6;
+    }
+    0
+}
+
+pub fn zero(xs: &mut [usize])
+    ensures { λ r. ⌜ now (xs .exit) ≡ zeros (now (xs .entry)) ⌝ }
+{
+    let mut i = 0;
+    while i < xs.len() {
+        xs[i] = 0;
+        i += 1;
+    }
+}
+
+pub fn zero_bytes(xs: &mut [u8])
+    ensures { λ r. ⌜ now (xs .exit) ≡ zeros (now (xs .entry)) ⌝ }
+{
+    let mut i = 0;
+    while i < xs.len() {
+        xs[i] = 0;
+        i += 1;
+    }
+}
+
+// ---- rows
+
+// The row is used, and lent.
+pub fn row_used(len: usize, used: usize, row: usize) -> bool
+    ensures { λ r. ⌜ r ≡ (ltb row used && leb used (len / rowWidth)) ⌝ }
+{
+    if used <= row {
+        return false;
+    }
+    used <= len / ROW_WIDTH
+}
+
+// The row's columns, where it is lent; else nothing changes.
+pub fn put_row(rows: &mut [usize], row: usize, v: Row)
+    ensures { λ r. ⌜ now (rows .exit) ≡ putRow (now (rows .entry)) row v ⌝ }
+{
+    if row < rows.len() / ROW_WIDTH {
+        let i = row * ROW_WIDTH;
+        rows[i] = v.kind;
+        rows[i + 1] = v.key.mark;
+        rows[i + 2] = v.key.begin;
+        rows[i + 3] = v.key.size;
+        rows[i + 4] = v.body.begin;
+        rows[i + 5] = v.body.size;
+        rows[i + 6] = v.class;
+        rows[i + 7] = v.flag;
+        rows[i + 8] = v.number;
+        rows[i + 9] = v.count;
+        rows[i + 10] = v.count2;
+        rows[i + 11] = v.end;
+    }
+}
+
+// A column of a row, 0 where the row or the column is not there.
+pub fn column(rows: &[usize], row: usize, col: usize) -> usize
+    ensures { λ r. ⌜ r ≡ columnAt (now (rows .entry)) row col ⌝ }
+{
+    if row < rows.len() / ROW_WIDTH {
+        if col < ROW_WIDTH {
+            return rows[row * ROW_WIDTH + col];
+        }
+    }
+    0
 }
