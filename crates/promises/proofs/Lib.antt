@@ -5,3 +5,5 @@ pub mod Along
 pub mod States
 pub mod Shows
 pub mod Pieces
+pub mod Unique
+pub mod Size
