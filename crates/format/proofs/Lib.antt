@@ -1,1 +1,64 @@
+-- The worked examples, and that each call has one outcome.
 pub mod Examples
+pub mod Unique
+-- Feeding is reading, however the message is cut.
+pub mod Feeding
+pub mod Cuts
+pub mod Used
+pub mod Kept
+pub mod Along
+pub mod States
+pub mod Shows
+pub mod Pieces
+pub mod Wiped
+-- Reading means the standard.
+pub mod Alike
+pub mod Rep
+pub mod Unfolding
+pub mod Tables
+pub mod Changes
+pub mod Stage
+pub mod Texts
+pub mod Naming
+pub mod Loops
+pub mod Ends
+pub mod Plains
+pub mod Holders
+pub mod Values
+pub mod Meaning
+-- Every table that a reading finished passes 13, and 14 unless a date is too large.
+pub mod Lands
+pub mod RowTests
+pub mod Stages
+pub mod Posts
+pub mod Spans
+pub mod Heard
+pub mod Children
+pub mod Classes
+pub mod Markers
+pub mod ValueRows
+pub mod Finished
+-- Writing: a tree's pieces, what the writer emits of them, how a writing ends.
+pub mod Parts
+pub mod Emit
+pub mod Writes
+-- The standard: its fuels, and that it reads back what is written.
+pub mod Fuel
+pub mod Words
+pub mod Writable
+pub mod Back
+pub mod Round
+-- Tested rows: their tree can be written, and has all its levels.
+pub mod Tested
+pub mod Loans
+pub mod Unfolded
+pub mod Levels
+-- Loans that can hold a tree unfolded: its bytes are below the limit, and its reading never ends for want of room.
+pub mod Size
+pub mod Holds
+pub mod Enough
+pub mod Taken
+pub mod Finishes
+-- What an accepted writing wrote, read again.
+pub mod Again
+pub mod Trip

@@ -1,4 +1,4 @@
--- Every decision of a reading: what one byte, with those before it, makes of the loans. The whole reading and the feed take the same ones, each in its own order.
+-- Every decision of a reading: what one byte, with those before it, makes of the loans. Reading and Step only say which comes next.
 -- A decision is a column of refusals in the order in which they come, 12 first, and then what it gives. It writes at most one loan.
 use mathlib.Core.Bool.{Bool, true, false, cond, not, _&&_}
 use mathlib.Core.List.{List, [], _∷_}

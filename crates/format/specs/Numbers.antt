@@ -1,7 +1,10 @@
--- A state as plain numbers, of which any are a state: how they are read, written back, and stepped. Numbers that a mode has no use for are 0.
+-- A state as plain numbers, of which any are a state: how they are read, written back, and stepped. What a mode has no use for is not read, and written as 0.
+--   modes      1 marker (purpose: the key's mark)   2 word   3 eight bytes   4 flag   5 text   6 raw bytes
+--   purposes   1 integer, double   2 object, date   3 XML   4 date   5 array   6 byte array   7 raw vector of fours   8 of eights   9 object vector
+--              10 dictionary   11 string   12 key of an array   13 key of an object   14 class   15 externalizable class   16 name   17 class of a vector
 use mathlib.Core.Bool.{Bool, true, false, cond, not, _&&_}
 use mathlib.Core.List.{List, [], _∷_}
-use Prim.Native.Nat.{ℕ, zero, suc, _+_, _*_}
+use Prim.Native.Nat.{ℕ, zero, suc, _+_, _*_, _/_}
 use lib.Dec.{leb, ltb, eqb}
 use lib.ListN.{length, getD}
 use lib.Seq.{sets}
@@ -9,17 +12,17 @@ use Rattle.rows.specs.declared.Cursor.{Cursor}
 use Rattle.rows.specs.declared.Span.{Span}
 use Rattle.rows.specs.declared.Key.{Key}
 use Rattle.rows.specs.declared.Trait.{Trait}
-use Rattle.rows.specs.Memory.{Memory, fresh, faultOf, messageLimit, openLimit, span, noSpan}
+use Rattle.rows.specs.Memory.{Memory, fresh, faultOf, messageLimit, openLimit, rowWidth, spanWidth, traitWidth, span, noSpan, spanUsed}
 use Rattle.format.specs.declared.Lent.{Lent}
 use Rattle.format.specs.declared.Work.{Work}
 use Rattle.format.specs.declared.Head.{Head}
 use Rattle.format.specs.declared.Frame.{Frame}
-use Rattle.format.specs.Decide.{Body, xml, date, array, bytes, raw, objects, dictionary, four, eight}
+use Rattle.format.specs.Decide.{classOf, Body, xml, date, array, bytes, raw, objects, dictionary, four, eight}
 use Rattle.format.specs.Reading.{finished, refused}
-use Rattle.format.specs.Step.{Pairing, assoc, dynamics, Items, dense, vector, Task, pairsOf, itemsOf, membersOf, keysOf, valuesOf, strange, Use}
-use Rattle.format.specs.Step.{forString, forKey, forClass, forExternal, forName, forVector, Text, xmlText, tableText, Word, integerWord, objectWord}
-use Rattle.format.specs.Step.{sizeWord, textWord, Number, doubleBits, dateBits, Flag, rawFlag, objectsFlag, dictionaryFlag, Raw, byteArray, rawVector}
-use Rattle.format.specs.Step.{Mode, atMarker, atWord, atNumber, atFlag, atText, atRaw, astray, State, wait, over, none, broken, step}
+use Rattle.format.specs.Step.{Pairing, assoc, dynamics, Use, forString, forKey, forClass, forExternal, forName, forVector, Text, xmlText, tableText}
+use Rattle.format.specs.Step.{Word, integerWord, objectWord, sizeWord, textWord, Number, doubleBits, dateBits, Flag, rawFlag, objectsFlag, dictionaryFlag}
+use Rattle.format.specs.Step.{Raw, byteArray, rawVector, rawRow, Mode, atMarker, atWord, atNumber, atFlag, atText, atRaw, astray}
+use Rattle.format.specs.Step.{frame, State, wait, over, none, broken, step}
 
 -- the head, and the frames of the open values, outermost first, each of six numbers
 pub record Numbers : Type 0 where
@@ -31,46 +34,23 @@ frameWidth = 6
 
 -- ---- frames
 
-abbrev pub frame : ℕ → ℕ → ℕ → ℕ → ℕ → ℕ → Frame
-frame task row left done first y = record { task = task; row = row; left = left; done = done; first = first; dynamic = y }
-
 unfoldable pub frameAt : List ℕ → ℕ → Frame
 frameAt F i =
     frame (getD F (i * frameWidth) 0) (getD F (i * frameWidth + 1) 0) (getD F (i * frameWidth + 2) 0) (getD F (i * frameWidth + 3) 0)
     (getD F (i * frameWidth + 4) 0) (getD F (i * frameWidth + 5) 0)
 
-unfoldable pub taskOf : Frame → Task
-taskOf f =
-    cond (eqb (f .task) 1) (pairsOf (assoc (f .row) (f .left) (f .done)))
-    (cond (eqb (f .task) 2) (pairsOf (dynamics (f .row) (f .done)))
-    (cond (eqb (f .task) 3) (itemsOf dense (f .row) (f .left) (f .done))
-    (cond (eqb (f .task) 4) (itemsOf vector (f .row) (f .left) (f .done))
-    (cond (eqb (f .task) 5) (membersOf (f .row) (f .left) (f .done) (f .first) (f .dynamic))
-    (cond (eqb (f .task) 6) (keysOf (f .row) (f .left) (f .done))
-    (cond (eqb (f .task) 7) (valuesOf (f .row) (f .left) (f .done)) strange))))))
-
-unfoldable pub frameOf : Task → Frame
-frameOf (pairsOf (assoc row left done)) = frame 1 row left done 0 0
-frameOf (pairsOf (dynamics row done)) = frame 2 row 0 done 0 0
-frameOf (itemsOf dense row left done) = frame 3 row left done 0 0
-frameOf (itemsOf vector row left done) = frame 4 row left done 0 0
-frameOf (membersOf row left done first y) = frame 5 row left done first y
-frameOf (keysOf row left done) = frame 6 row left done 0 0
-frameOf (valuesOf row left done) = frame 7 row left done 0 0
-frameOf strange = frame 0 0 0 0 0 0
-
--- the tasks of n open values, innermost first
-unfoldable pub tasksOf : List ℕ → ℕ → List Task
-tasksOf F zero = []
-tasksOf F (suc n) = taskOf (frameAt F n) ∷ tasksOf F n
+-- the frames of n open values, innermost first
+unfoldable pub framesOf : List ℕ → ℕ → List Frame
+framesOf F zero = []
+framesOf F (suc n) = frameAt F n ∷ framesOf F n
 
 abbrev pub numbersOf : Frame → List ℕ
 numbersOf f = f .task ∷ f .row ∷ f .left ∷ f .done ∷ f .first ∷ f .dynamic ∷ []
 
--- tasks laid into their frames; frames above them are left as they are
-unfoldable pub laid : List ℕ → List Task → List ℕ
+-- frames laid in their places; those above them are left as they are
+unfoldable pub laid : List ℕ → List Frame → List ℕ
 laid F [] = F
-laid F (t ∷ ts) = sets (laid F ts) (length ts * frameWidth) (numbersOf (frameOf t))
+laid F (f ∷ fs) = sets (laid F fs) (length fs * frameWidth) (numbersOf f)
 
 -- ---- modes
 
@@ -175,7 +155,7 @@ workOf astray = noWork
 -- status: 1 waiting, 2 finished, 3 refused, by a number from 1 to 12; anything else was never begun
 unfoldable pub stateOf : Numbers → Memory → State
 stateOf n m =
-    cond (eqb (n .head .status) 1) (wait (modeOf (n .head .work)) (tasksOf (n .frames) (n .head .depth)) (n .head .cursor) m)
+    cond (eqb (n .head .status) 1) (wait (modeOf (n .head .work)) (framesOf (n .frames) (n .head .depth)) (n .head .cursor) m)
     (cond (eqb (n .head .status) 2) (over (finished (n .head .cursor) m))
     (cond (eqb (n .head .status) 3 && leb 1 (n .head .number) && leb (n .head .number) 12)
     (over (refused (n .head .number) (n .head .told) (n .head .place) m))
@@ -216,19 +196,53 @@ sameLent a b =
     eqb (a .rows) (b .rows) && eqb (a .store) (b .store) && eqb (a .strings) (b .strings) && eqb (a .objects) (b .objects)
     && eqb (a .traits) (b .traits) && eqb (a .names) (b .names)
 
--- a value in work leaves room for one open value less than a value that is to come
-unfoldable pub openFits : Mode → ℕ → Bool
-openFits (atMarker k) depth = leb depth openLimit
-openFits (atWord w left part) depth = ltb depth openLimit
-openFits (atNumber d left part) depth = ltb depth openLimit
-openFits (atFlag f) depth = ltb depth openLimit
-openFits (atText x s left test) depth = ltb depth openLimit
-openFits (atRaw r s left) depth = ltb depth openLimit
-openFits astray depth = false
+-- used counts lie within the loans
+unfoldable pub countsFit : Cursor → Memory → Bool
+countsFit c m =
+    leb (c .rows) (length (m .rows) / rowWidth) && leb (c .store) (length (m .store)) && leb (c .strings) (length (m .strings) / spanWidth)
+    && leb (c .objects) (length (m .objects)) && leb (c .traits) (length (m .traits) / traitWidth) && leb (c .names) (length (m .names) / spanWidth)
 
--- the loans are those of the beginning, which 1 would not refuse; as many bytes are taken and values open as can be; the mode is one of ours
-unfoldable pub sound : Lent → Mode → List Task → Cursor → Memory → Bool
-sound lent x ts c m = sameLent (lentOf m) lent && eqb (faultOf m) 0 && leb (c .at) messageLimit && openFits x (length ts)
+-- a mode's row is used, and its spans
+unfoldable pub useFits : Cursor → Use → Bool
+useFits c (forString row) = ltb row (c .rows)
+useFits c (forKey (assoc row left done)) = ltb row (c .rows)
+useFits c (forKey (dynamics row done)) = ltb row (c .rows)
+useFits c (forClass row count y) = ltb row (c .rows)
+useFits c forExternal = true
+useFits c (forName row t count) = ltb row (c .rows) && spanUsed c (classOf t)
+useFits c (forVector row count) = ltb row (c .rows)
+
+unfoldable pub modeFits : Cursor → Mode → Bool
+modeFits c (atMarker k) = leb (k .mark) 1 && spanUsed c (span (k .begin) (k .size))
+modeFits c (atWord (integerWord row) left part) = ltb row (c .rows)
+modeFits c (atWord (objectWord row) left part) = ltb row (c .rows)
+modeFits c (atWord (sizeWord row b) left part) = ltb row (c .rows)
+modeFits c (atWord (textWord u) left part) = useFits c u
+modeFits c (atNumber (doubleBits row) left part) = ltb row (c .rows)
+modeFits c (atNumber (dateBits row) left part) = ltb row (c .rows)
+modeFits c (atFlag (rawFlag row w s)) = ltb row (c .rows) && spanUsed c s
+modeFits c (atFlag (objectsFlag row count)) = ltb row (c .rows)
+modeFits c (atFlag (dictionaryFlag row count)) = ltb row (c .rows)
+modeFits c (atText (xmlText row) s left test) = ltb row (c .rows) && spanUsed c s && ltb left (s .size)
+modeFits c (atText (tableText u) s left test) = useFits c u && spanUsed c s && ltb left (s .size)
+modeFits c (atRaw r s left) = ltb (rawRow r) (c .rows) && spanUsed c s && ltb left (s .size)
+modeFits c astray = false
+
+-- at a marker so many may be open as can be, of which 9 then judges; with a value in work one less
+abbrev pub depthFits : Mode → ℕ → Bool
+depthFits (atMarker k) depth = leb depth openLimit
+depthFits (atWord w left part) depth = ltb depth openLimit
+depthFits (atNumber d left part) depth = ltb depth openLimit
+depthFits (atFlag f) depth = ltb depth openLimit
+depthFits (atText x s left test) depth = ltb depth openLimit
+depthFits (atRaw r s left) depth = ltb depth openLimit
+depthFits astray depth = false
+
+-- the loans are those of the beginning, which 1 would not refuse; no more is taken, used and open than can be; the mode is one of ours, and what it works
+-- with is used
+unfoldable pub sound : Lent → Mode → List Frame → Cursor → Memory → Bool
+sound lent x fs c m =
+    sameLent (lentOf m) lent && eqb (faultOf m) 0 && leb (c .at) messageLimit && depthFits x (length fs) && countsFit c m && modeFits c x
 
 -- 12 before anything else
 unfoldable pub soundStep : Lent → ℕ → State → State
@@ -243,7 +257,7 @@ pub data Held : Type 0 where
 unfoldable pub afterStep : Numbers → State → Held
 afterStep n s = held (numbered n s) (memoryOf s)
 
--- one byte: what has ended keeps its numbers and its loans
+-- one byte; what has ended keeps its numbers and its loans
 abbrev pub stepped : Numbers → Memory → ℕ → State → Held
 stepped n m b (over e) = held n m
 stepped n m b (wait x ts c m′) = afterStep n (soundStep (n .head .lent) b (wait x ts c m′))

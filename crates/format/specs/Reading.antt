@@ -63,10 +63,11 @@ decided (give a m c) _ bs = ok a m c bs
 abbrev pub by : {A : Type 0} → Decision A → Reader A
 by f m c bs = decided (f m c) m bs
 
--- the one place where a byte is taken: 2 where there is none, 11 where it is one too many
+-- one byte more is taken
 abbrev pub taken : Cursor → Cursor
 taken c = cursor (suc (c .at)) (c .rows) (c .store) (c .strings) (c .objects) (c .traits) (c .names)
 
+-- the one place where a byte is asked for: 2 where there is none, 11 where it is one too many
 unfoldable pub byte : Reader ℕ
 byte m c [] = bad 2 0 (c .at) m
 byte m c (b ∷ bs) = cond (leb messageLimit (c .at)) (bad 11 0 (c .at) m) (ok b m (taken c) bs)

@@ -166,7 +166,7 @@ names (suc n) = do
   xs ← names n
   ret (x ∷ xs)
 
-unfoldable pub enterTraits : Traits → Std Traits
+abbrev pub enterTraits : Traits → Std Traits
 enterTraits t = change t (withTraits t)
 
 -- a new trait, entered after its last name

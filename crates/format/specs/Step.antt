@@ -1,4 +1,5 @@
--- The reading byte by byte: what a state waits for, and what the next byte makes of it. Same decisions as Reading, one waiting point at a time.
+-- The reading byte by byte: what a state waits for, and what the next byte makes of it. The decisions are Reading's, one waiting point at a time:
+-- `act` by the mode; then `worded`, `numberDone`, `flagDone`, `textDone`; then `had`, `opened`; then `onward` and `pop`.
 use mathlib.Core.Bool.{Bool, true, false, cond}
 use mathlib.Core.List.{List, [], _∷_}
 use Prim.Native.Nat.{ℕ, zero, suc, _+_, _*_, _-_}
@@ -8,6 +9,7 @@ use Rattle.rows.specs.declared.Cursor.{Cursor}
 use Rattle.rows.specs.declared.Span.{Span}
 use Rattle.rows.specs.declared.Key.{Key}
 use Rattle.rows.specs.declared.Trait.{Trait}
+use Rattle.format.specs.declared.Frame.{Frame}
 use Rattle.rows.specs.Memory.{Memory, fresh, zeroed, faultOf, messageLimit, openLimit, colCount, colCount2, noSpan, noKey, keyOf}
 use Rattle.wire.specs.declared.Part.{Part}
 use Rattle.wire.specs.declared.Part.the-variants.{More, Whole, Astray}
@@ -28,10 +30,10 @@ use Rattle.format.specs.Reading.{Ended, finished, refused, refusal, take
 
 -- ---- what a state holds
 
--- pairs up to an empty key: of an array, which then has so many values; of an object. The row comes first, how many are done last
+-- pairs up to an empty key: of an array, with so many values to follow; of an object
 pub data Pairing : Type 0 where
-  assoc : ℕ → ℕ → ℕ → Pairing
-  dynamics : ℕ → ℕ → Pairing
+  assoc : (row left done : ℕ) → Pairing
+  dynamics : (row done : ℕ) → Pairing
 
 -- items of an array or of an object vector, and the column that counts them
 pub data Items : Type 0 where
@@ -41,64 +43,88 @@ abbrev pub countOf : Items → ℕ
 countOf dense = colCount2
 countOf vector = colCount
 
--- what an open value still has to read: pairs; or, by its row, so many entries with how many are done: items; sealed members, with the trait's first name
--- and whether dynamic ones follow; pairs of a dictionary, with a key or a value next
+-- what an open value still has to read, so many left and so many done: pairs; items; sealed members, with the trait's first name and whether dynamic ones
+-- follow; pairs of a dictionary, with a key or a value in work
 pub data Task : Type 0 where
   pairsOf : Pairing → Task
-  itemsOf : Items → ℕ → ℕ → ℕ → Task
-  membersOf : ℕ → ℕ → ℕ → ℕ → ℕ → Task
-  keysOf valuesOf : ℕ → ℕ → ℕ → Task
+  itemsOf : Items → (row left done : ℕ) → Task
+  membersOf : (row left done first dynamic : ℕ) → Task
+  keysOf valuesOf : (row left done : ℕ) → Task
   strange : Task
+
+-- a task as the numbers of a frame: 1 pairs of an array, 2 dynamic members, 3 items of an array, 4 of a vector, 5 sealed members, 6 a dictionary's keys, 7 values
+abbrev pub frame : ℕ → ℕ → ℕ → ℕ → ℕ → ℕ → Frame
+frame task row left done first y = record { task = task; row = row; left = left; done = done; first = first; dynamic = y }
+
+unfoldable pub taskOf : Frame → Task
+taskOf f =
+    cond (eqb (f .task) 1) (pairsOf (assoc (f .row) (f .left) (f .done)))
+    (cond (eqb (f .task) 2) (pairsOf (dynamics (f .row) (f .done)))
+    (cond (eqb (f .task) 3) (itemsOf dense (f .row) (f .left) (f .done))
+    (cond (eqb (f .task) 4) (itemsOf vector (f .row) (f .left) (f .done))
+    (cond (eqb (f .task) 5) (membersOf (f .row) (f .left) (f .done) (f .first) (f .dynamic))
+    (cond (eqb (f .task) 6) (keysOf (f .row) (f .left) (f .done))
+    (cond (eqb (f .task) 7) (valuesOf (f .row) (f .left) (f .done)) strange))))))
+
+unfoldable pub frameOf : Task → Frame
+frameOf (pairsOf (assoc row left done)) = frame 1 row left done 0 0
+frameOf (pairsOf (dynamics row done)) = frame 2 row 0 done 0 0
+frameOf (itemsOf dense row left done) = frame 3 row left done 0 0
+frameOf (itemsOf vector row left done) = frame 4 row left done 0 0
+frameOf (membersOf row left done first y) = frame 5 row left done first y
+frameOf (keysOf row left done) = frame 6 row left done 0 0
+frameOf (valuesOf row left done) = frame 7 row left done 0 0
+frameOf strange = frame 0 0 0 0 0 0
 
 -- whose string it is: a string's row; the next key of pairs; the class of an object with so many names, dynamic or not; that of an externalizable one;
 -- a name of a trait, so many more to come; the class of a vector with so many entries
 pub data Use : Type 0 where
-  forString : ℕ → Use
+  forString : (row : ℕ) → Use
   forKey : Pairing → Use
-  forClass : ℕ → ℕ → ℕ → Use
+  forClass : (row names dynamic : ℕ) → Use
   forExternal : Use
-  forName : ℕ → Trait → ℕ → Use
-  forVector : ℕ → ℕ → Use
+  forName : (row : ℕ) → Trait → (more : ℕ) → Use
+  forVector : (row entries : ℕ) → Use
 
 -- whose text it is: an XML's row; or a string that enters the table
 pub data Text : Type 0 where
-  xmlText : ℕ → Text
+  xmlText : (row : ℕ) → Text
   tableText : Use → Text
 
 -- whose word it is
 pub data Word : Type 0 where
-  integerWord objectWord : ℕ → Word
-  sizeWord : ℕ → Body → Word
+  integerWord objectWord : (row : ℕ) → Word
+  sizeWord : (row : ℕ) → Body → Word
   textWord : Use → Word
 
 -- whose eight bytes they are
 pub data Number : Type 0 where
-  doubleBits dateBits : ℕ → Number
+  doubleBits dateBits : (row : ℕ) → Number
 
 -- whose flag it is: a raw vector's, with its span; an object vector's or a dictionary's, of so many entries
 pub data Flag : Type 0 where
-  rawFlag : ℕ → Width → Span → Flag
-  objectsFlag dictionaryFlag : ℕ → ℕ → Flag
+  rawFlag : (row : ℕ) → Width → Span → Flag
+  objectsFlag dictionaryFlag : (row entries : ℕ) → Flag
 
 -- whose raw bytes they are: a byte array's; a vector's
 pub data Raw : Type 0 where
-  byteArray : ℕ → Raw
-  rawVector : ℕ → Width → Raw
+  byteArray : (row : ℕ) → Raw
+  rawVector : (row : ℕ) → Width → Raw
 
 -- what the next byte is: a marker, for a row with a key; of a word or of eight bytes, so many left after it, the number so far; a flag; of a text's or a
 -- raw body's span, so many left after it, the text test so far
 pub data Mode : Type 0 where
   atMarker : Key → Mode
-  atWord : Word → ℕ → ℕ → Mode
-  atNumber : Number → ℕ → ℕ → Mode
+  atWord : Word → (left part : ℕ) → Mode
+  atNumber : Number → (left part : ℕ) → Mode
   atFlag : Flag → Mode
-  atText : Text → Span → ℕ → ℕ → Mode
-  atRaw : Raw → Span → ℕ → Mode
+  atText : Text → Span → (left test : ℕ) → Mode
+  atRaw : Raw → Span → (left : ℕ) → Mode
   astray : Mode
 
--- waiting, with the tasks around, innermost first; ended; or never begun
+-- waiting, with the frames of the values around, innermost first; ended; or never begun
 pub data State : Type 0 where
-  wait : Mode → List Task → Cursor → Memory → State
+  wait : Mode → List Frame → Cursor → Memory → State
   over : Ended → State
   none : Memory → State
 
@@ -117,22 +143,22 @@ abbrev pub atString : Use → Mode
 atString u = atWord (textWord u) 3 0
 
 -- the next key, if there are not too many before it
-abbrev pub nextKey : ℕ → Pairing → List Task → Cursor → Memory → State
+abbrev pub nextKey : ℕ → Pairing → List Frame → Cursor → Memory → State
 nextKey done p ts c m = cond (leb messageLimit done) (broken m) (wait (atString (forKey p)) ts c m)
 
 -- a task goes on with what it has left; k is what comes when its value is finished
-unfoldable pub go : (Cursor → Memory → State) → List Task → Task → Cursor → Memory → State
+unfoldable pub go : (Cursor → Memory → State) → List Frame → Task → Cursor → Memory → State
 go k ts (pairsOf (assoc row n done)) c m = nextKey done (assoc row n done) ts c m
 go k ts (pairsOf (dynamics row done)) c m = nextKey done (dynamics row done) ts c m
 go k ts (itemsOf i row zero done) c m = on (onRows (closed row) m c) m (λ x c m. k c m)
-go k ts (itemsOf i row (suc n) done) c m = wait (atMarker noKey) (itemsOf i row n done ∷ ts) c m
+go k ts (itemsOf i row (suc n) done) c m = wait (atMarker noKey) (frameOf (itemsOf i row n done) ∷ ts) c m
 go k ts (membersOf row zero done first zero) c m = on (onRows (closed row) m c) m (λ x c m. k c m)
 go k ts (membersOf row zero done first (suc y)) c m = nextKey 0 (dynamics row 0) ts c m
 go k ts (membersOf row (suc n) done first y) c m =
-    on (looking (λ m. sealedKey (first + done) (m .names)) m c) m (λ key c m. wait (atMarker key) (membersOf row n done first y ∷ ts) c m)
+    on (looking (λ m. sealedKey (first + done) (m .names)) m c) m (λ key c m. wait (atMarker key) (frameOf (membersOf row n done first y) ∷ ts) c m)
 go k ts (keysOf row zero done) c m = on (onRows (closed row) m c) m (λ x c m. k c m)
-go k ts (keysOf row (suc n) done) c m = wait (atMarker noKey) (keysOf row n done ∷ ts) c m
-go k ts (valuesOf row n done) c m = wait (atMarker noKey) (valuesOf row n done ∷ ts) c m
+go k ts (keysOf row (suc n) done) c m = wait (atMarker noKey) (frameOf (keysOf row n done) ∷ ts) c m
+go k ts (valuesOf row n done) c m = wait (atMarker noKey) (frameOf (valuesOf row n done) ∷ ts) c m
 go k ts strange c m = broken m
 
 -- the entry in work of a task is finished and counted: what the task has left
@@ -146,36 +172,36 @@ entry (valuesOf row n done) c m f = on (onRows (counted row colCount done) m c) 
 entry strange c m f = broken m
 
 -- a value is finished
-unfoldable pub pop : List Task → Cursor → Memory → State
+unfoldable pub pop : List Frame → Cursor → Memory → State
 pop [] c m = over (finished c m)
-pop (t ∷ ts) c m = entry t c m (λ t. go (pop ts) ts t)
+pop (f ∷ ts) c m = entry (taskOf f) c m (λ t. go (pop ts) ts t)
 
 -- the value in work goes on with a task; it is finished by a decision
-abbrev pub onward : List Task → Task → Cursor → Memory → State
+abbrev pub onward : List Frame → Task → Cursor → Memory → State
 onward ts t c m = go (pop ts) ts t c m
 
-abbrev pub ends : List Task → Decision Unit → Cursor → Memory → State
+abbrev pub ends : List Frame → Decision Unit → Cursor → Memory → State
 ends ts f c m = on (f m c) m (λ x. pop ts)
 
 -- ---- strings and texts
 
 -- a key is read, of a given size: an empty one ends the pairs
-unfoldable pub keyed : List Task → Pairing → Span → ℕ → Cursor → Memory → State
+unfoldable pub keyed : List Frame → Pairing → Span → ℕ → Cursor → Memory → State
 keyed ts (assoc row n done) s zero c m = onward ts (itemsOf dense row n 0) c m
 keyed ts (dynamics row done) s zero c m = ends ts (onRows (closed row)) c m
-keyed ts (assoc row n done) s (suc k) c m = wait (atMarker (keyOf s)) (pairsOf (assoc row n done) ∷ ts) c m
-keyed ts (dynamics row done) s (suc k) c m = wait (atMarker (keyOf s)) (pairsOf (dynamics row done) ∷ ts) c m
+keyed ts (assoc row n done) s (suc k) c m = wait (atMarker (keyOf s)) (frameOf (pairsOf (assoc row n done)) ∷ ts) c m
+keyed ts (dynamics row done) s (suc k) c m = wait (atMarker (keyOf s)) (frameOf (pairsOf (dynamics row done)) ∷ ts) c m
 
-abbrev pub members : List Task → ℕ → Trait → Cursor → Memory → State
+abbrev pub members : List Frame → ℕ → Trait → Cursor → Memory → State
 members ts row t = onward ts (membersOf row (t .count) 0 (t .first) (t .dynamic))
 
 -- so many names of a trait are to come
-unfoldable pub naming : List Task → ℕ → Trait → ℕ → Cursor → Memory → State
+unfoldable pub naming : List Frame → ℕ → Trait → ℕ → Cursor → Memory → State
 naming ts row t zero c m = on (onTraits (traitEnd t) m c) m (λ x. members ts row t)
 naming ts row t (suc n) c m = wait (atString (forName row t n)) ts c m
 
 -- a string is there
-unfoldable pub had : List Task → Use → Span → Cursor → Memory → State
+unfoldable pub had : List Frame → Use → Span → Cursor → Memory → State
 had ts (forString row) s c m = on (onRows (bodied row s) m c) m (λ x. ends ts (onRows (closed row)))
 had ts (forKey p) s c m = keyed ts p s (s .size) c m
 had ts (forClass row n y) s c m = on (onRows (objectClass row (traitOf s n y c)) m c) m (λ x. naming ts row (traitOf s n y c) n)
@@ -185,7 +211,7 @@ had ts (forVector row n) s c m =
     on (looking (λ m. starred s (m .store)) m c) m (λ star c m. on (onRows (vectorClass row star s) m c) m (λ x. onward ts (itemsOf vector row n 0)))
 
 -- the last byte of a text, with the verdict
-unfoldable pub textDone : List Task → Text → Span → Bool → Cursor → Memory → State
+unfoldable pub textDone : List Frame → Text → Span → Bool → Cursor → Memory → State
 textDone ts (xmlText row) s valid c m = on (looking (λ m. judged valid) m c) m (λ x. ends ts (onRows (closed row)))
 textDone ts (tableText u) s valid c m = on (onStrings (textEnd s valid) m c) m (λ s. had ts u s)
 
@@ -200,7 +226,7 @@ reservedFor (forVector row n) s = λ m c. give tt m c
 
 -- ---- words
 
-unfoldable pub stringSized : List Task → Use → Size → Cursor → Memory → State
+unfoldable pub stringSized : List Frame → Use → Size → Cursor → Memory → State
 stringSized ts u (Old i) c m = on (looking (λ m. oldText i (m .strings)) m c) m (λ s. had ts u s)
 stringSized ts u (New zero) c m = had ts u noSpan c m
 stringSized ts u (New (suc n)) c m =
@@ -212,7 +238,7 @@ roomy row zero c m f = f noSpan c m
 roomy row (suc n) c m f = on (looking (λ m. reserved (suc n) (m .store)) m c) m (λ s c m. on (onRows (bodied row s) m c) m (λ x. f s))
 
 -- a text, or a raw body, of n bytes is next
-unfoldable pub texting : List Task → ℕ → Span → ℕ → Cursor → Memory → State
+unfoldable pub texting : List Frame → ℕ → Span → ℕ → Cursor → Memory → State
 texting ts row s zero c m = ends ts (onRows (closed row)) c m
 texting ts row s (suc n) c m = wait (atText (xmlText row) s n 0) ts c m
 
@@ -220,11 +246,11 @@ abbrev pub rawRow : Raw → ℕ
 rawRow (byteArray row) = row
 rawRow (rawVector row w) = row
 
-unfoldable pub filling : List Task → Raw → Span → ℕ → Cursor → Memory → State
+unfoldable pub filling : List Frame → Raw → Span → ℕ → Cursor → Memory → State
 filling ts r s zero c m = ends ts (onRows (closed (rawRow r))) c m
 filling ts r s (suc n) c m = wait (atRaw r s n) ts c m
 
-unfoldable pub opened : List Task → ℕ → Body → ℕ → Cursor → Memory → State
+unfoldable pub opened : List Frame → ℕ → Body → ℕ → Cursor → Memory → State
 opened ts row xml n c m = roomy row n c m (λ s. texting ts row s n)
 opened ts row date n c m = wait (atNumber (dateBits row) 7 0) ts c m
 opened ts row array n c m = nextKey 0 (assoc row n 0) ts c m
@@ -233,11 +259,11 @@ opened ts row (raw w) n c m = roomy row (n * widthOf w) c m (λ s. wait (atFlag 
 opened ts row objects n c m = wait (atFlag (objectsFlag row n)) ts c m
 opened ts row dictionary n c m = wait (atFlag (dictionaryFlag row n)) ts c m
 
-unfoldable pub bodySized : List Task → ℕ → Body → Size → Cursor → Memory → State
+unfoldable pub bodySized : List Frame → ℕ → Body → Size → Cursor → Memory → State
 bodySized ts row body (Old i) c m = ends ts (λ m. onRows (referred row i (m .objects)) m) c m
 bodySized ts row body (New n) c m = on (onObjects (entered row) m c) m (λ x. opened ts row body n)
 
-unfoldable pub objectShaped : List Task → ℕ → Shape → Cursor → Memory → State
+unfoldable pub objectShaped : List Frame → ℕ → Shape → Cursor → Memory → State
 objectShaped ts row (Object i) c m = ends ts (λ m. onRows (referred row i (m .objects)) m) c m
 objectShaped ts row (Known i) c m =
     on (onObjects (entered row) m c) m (λ x c m. on (looking (λ m. oldTrait i (m .traits)) m c) m (λ t c m.
@@ -246,19 +272,19 @@ objectShaped ts row External c m = on (onObjects (entered row) m c) m (λ x. wai
 objectShaped ts row (Inline n y) c m = on (onObjects (entered row) m c) m (λ x. wait (atString (forClass row n y)) ts)
 
 -- a word is whole
-unfoldable pub worded : List Task → Word → ℕ → Cursor → Memory → State
+unfoldable pub worded : List Frame → Word → ℕ → Cursor → Memory → State
 worded ts (integerWord row) w c m = ends ts (onRows (integerEnd row w)) c m
 worded ts (objectWord row) w c m = objectShaped ts row (shapeOf w) c m
 worded ts (sizeWord row body) w c m = bodySized ts row body (sizeOf w) c m
 worded ts (textWord u) w c m = stringSized ts u (sizeOf w) c m
 
 -- eight bytes are whole
-unfoldable pub numberDone : List Task → Number → ℕ → Cursor → Memory → State
+unfoldable pub numberDone : List Frame → Number → ℕ → Cursor → Memory → State
 numberDone ts (doubleBits row) bits c m = ends ts (onRows (numbered row bits)) c m
 numberDone ts (dateBits row) bits c m = ends ts (onRows (dateEnd row bits)) c m
 
 -- a flag is there
-unfoldable pub flagDone : List Task → Flag → ℕ → Cursor → Memory → State
+unfoldable pub flagDone : List Frame → Flag → ℕ → Cursor → Memory → State
 flagDone ts (rawFlag row w s) b c m = on (onRows (flagged row (fixed b)) m c) m (λ x. filling ts (rawVector row w) s (s .size))
 flagDone ts (objectsFlag row n) b c m = on (onRows (flagged row (fixed b)) m c) m (λ x. wait (atString (forVector row n)) ts)
 flagDone ts (dictionaryFlag row n) b c m = on (onRows (flagged row (weak b)) m c) m (λ x. onward ts (keysOf row n 0))
@@ -270,7 +296,7 @@ rawGrown (rawVector row w) s n = onRows (grown row w s n)
 
 -- ---- markers
 
-unfoldable pub begun : List Task → ℕ → Kind → Cursor → Memory → State
+unfoldable pub begun : List Frame → ℕ → Kind → Cursor → Memory → State
 begun ts row leaf c m = pop ts c m
 begun ts row integer c m = wait (atWord (integerWord row) 3 0) ts c m
 begun ts row double c m = wait (atNumber (doubleBits row) 7 0) ts c m
@@ -287,7 +313,7 @@ onPart (More n) m more whole = more n
 onPart (Whole n) m more whole = whole n
 
 -- byte b for a mode, the cursor already past it
-unfoldable pub act : Mode → ℕ → List Task → Cursor → Memory → State
+unfoldable pub act : Mode → ℕ → List Frame → Cursor → Memory → State
 act (atMarker k) b ts c m = on (onRows (marker k (openLimit - length ts) b) m c) m (λ row. begun ts row (kindOf b))
 act (atWord w left n) b ts c m = onPart (partOf left n b) m (λ n. wait (atWord w (left - 1) n) ts c m) (λ n. worded ts w n c m)
 act (atNumber d left n) b ts c m = onPart (digitOf left n b) m (λ n. wait (atNumber d (left - 1) n) ts c m) (λ n. numberDone ts d n c m)

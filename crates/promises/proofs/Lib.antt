@@ -1,9 +1,1 @@
-pub mod Feeding
-pub mod Cuts
-pub mod Kept
-pub mod Along
-pub mod States
-pub mod Shows
-pub mod Pieces
-pub mod Unique
-pub mod Size
+pub mod Demands

@@ -3,7 +3,7 @@
 ghost use mathlib.Core.Path.{_≡_};
 
 // How many demands there are.
-pub fn demands() -> usize
+pub fn count() -> usize
     ensures { λ r. ⌜ r ≡ 3 ⌝ }
 {
     3

@@ -1,0 +1,5 @@
+pub mod Refusals
+pub mod Room
+pub mod Rows
+pub mod Stores
+pub mod Widths

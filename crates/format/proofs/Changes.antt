@@ -1,0 +1,320 @@
+-- Each change that a decision makes to the loans, and that they stay in accord with the standard's tables.
+use mathlib.Core.Path.{_≡_, refl, _∙_}
+use mathlib.Core.List.{List, [], _∷_, _++_}
+use mathlib.Core.Logic.{_≢_}
+use mathlib.Core.Option.{Option, none, some}
+use Prim.Native.Nat.{ℕ, _+_, _*_, _<_, _≤_}
+use native.Mathlib.Omega.{arith}
+use native.Mathlib.Decide.{decLt, ℕ-discrete}
+use lib.ListN.{length, getD, set, length-set, length-append, List·getD-append}
+use lib.Seq.{getD-set-same, getD-set-other, sets, length-sets, getD-append-seam}
+use Rattle.rows.specs.declared.Cursor.{Cursor}
+use Rattle.rows.specs.declared.Trait.{Trait}
+use Rattle.rows.specs.Memory.{Memory, memory, messageLimit, cell, put, colEnd}
+use Rattle.format.specs.Decide.{rowsTo, storeTo, stringsTo, objectsTo, traitsTo, namesTo, traitAt}
+use Rattle.format.specs.Standard.{Tree, Traits, Tables}
+use Rattle.format.proofs.Alike.{atTo}
+use Rattle.format.proofs.Rep.{land, Text, Own, own-ext, Ext}
+use Rattle.format.proofs.Tables.{Kept, kept-set, kept-sets, sets-at, part-kept, TraitRep, noTraits, Entry}
+use Rattle.format.proofs.Tables.{landOf, Sim, sim-grow}
+
+-- ---- memories with one loan changed
+
+abbrev pub withRows : Memory → List ℕ → Memory
+withRows m R = memory R (m .store) (m .strings) (m .objects) (m .traits) (m .names)
+
+abbrev pub withStore : Memory → List ℕ → Memory
+withStore m B = memory (m .rows) B (m .strings) (m .objects) (m .traits) (m .names)
+
+abbrev pub withStrings : Memory → List ℕ → Memory
+withStrings m T = memory (m .rows) (m .store) T (m .objects) (m .traits) (m .names)
+
+abbrev pub withObjects : Memory → List ℕ → Memory
+withObjects m O = memory (m .rows) (m .store) (m .strings) O (m .traits) (m .names)
+
+abbrev pub withTraits : Memory → List ℕ → Memory
+withTraits m U = memory (m .rows) (m .store) (m .strings) (m .objects) U (m .names)
+
+abbrev pub withNames : Memory → List ℕ → Memory
+withNames m N = memory (m .rows) (m .store) (m .strings) (m .objects) (m .traits) N
+
+-- ---- rows, store and names
+
+module _ {u : ℕ} {m : Memory} {c : Cursor} {s : Tables} (x : Sim u m c s) where
+  ext-store : (B : List ℕ) (v : ℕ) → u ≤ v → u ≤ length B → Kept u (m .store) B → Ext (landOf u m c) (land (m .rows) (c .rows) B v)
+  ext-store B v h f k =
+      let a = x .settled in
+      let b = x .storeIn in
+      record { up = omega arith; cols = λ r j d l. refl; fill = h; texts = λ b z l. part-kept u (m .store) B b z k (omega arith) f l }
+
+  pub sim-at : (n : ℕ) → n ≤ messageLimit → Sim u m (atTo c n) s
+  sim-at n h =
+      record {
+        limit = h;
+        rowsIn = x .rowsIn;
+        settled = x .settled;
+        storeIn = x .storeIn;
+        namesIn = x .namesIn;
+        strings = x .strings;
+        kinds = x .kinds;
+        objects = x .objects;
+      }
+
+  -- a byte past what is settled
+  pub sim-byte : (i b : ℕ) → u ≤ i → Sim u (withStore m (set (m .store) i b)) c s
+  sim-byte i b h =
+      let f = x .settled in
+      let g = x .storeIn in
+      let l = length-set (m .store) i b in
+      sim-grow x (m .rows) (set (m .store) i b) (m .names) (c .at) (c .rows) (c .store) (c .names) u (x .limit) (x .rowsIn) f (omega arith)
+      (x .namesIn) (omega arith) (λ i l. refl)
+      (ext-store _ u (omega arith) (omega arith) (kept-set u i b (m .store) h)) (λ r l e. e)
+
+  -- more of the store is used
+  pub sim-reserve : (z : ℕ) → c .store ≤ z → z ≤ length (m .store) → Sim u m (storeTo c z) s
+  sim-reserve z h k =
+      let f = x .settled in
+      record {
+        limit = x .limit;
+        rowsIn = x .rowsIn;
+        settled = omega arith;
+        storeIn = k;
+        namesIn = x .namesIn;
+        strings = x .strings;
+        kinds = x .kinds;
+        objects = x .objects;
+      }
+
+  -- more of the store is settled
+  pub sim-settle : (v : ℕ) → u ≤ v → v ≤ c .store → Sim v m c s
+  sim-settle v h k =
+      let g = x .storeIn in
+      sim-grow x (m .rows) (m .store) (m .names) (c .at) (c .rows) (c .store) (c .names) v (x .limit) (x .rowsIn) k g (x .namesIn) (omega arith)
+      (λ i l. refl)
+      (ext-store (m .store) v h (omega arith) (λ i l. refl)) (λ r l e. e)
+
+  -- a column of an open row
+  module _ (r j v : ℕ) (o : cell (m .rows) r colEnd ≡ 0) (w : j < 12) where
+    pub ext-put : Ext (landOf u m c) (land (put (m .rows) r j v) (c .rows) (m .store) u)
+    ext-put =
+        record {
+          up = omega arith;
+          cols = λ q i d l.
+              (let f : q ≢ r = λ e. (let z : q < cell (m .rows) r colEnd = rw (← e) (d .0) in absurd (omega arith)) in
+              let g : q * 12 + i ≢ r * 12 + j = omega arith in
+              simp getD-set-other);
+          fill = omega arith;
+          texts = λ b z l. refl;
+        }
+
+    pub sim-put : j < 11 → Sim u (withRows m (put (m .rows) r j v)) c s
+    sim-put h =
+        sim-grow x (put (m .rows) r j v) (m .store) (m .names) (c .at) (c .rows) (c .store) (c .names) u (x .limit) (rw length-set (x .rowsIn))
+        (x .settled) (x .storeIn) (x .namesIn)
+        (omega arith) (λ i l. refl) ext-put (λ q l e. let f : q * 12 + 11 ≢ r * 12 + j = omega arith in rw getD-set-other e)
+
+  -- a row more
+  module _ (cs : List ℕ) (long : length cs ≡ 12) (fits : c .rows * 12 + 12 ≤ length (m .rows)) where
+    pub sim-row : Sim u (withRows m (sets (m .rows) (c .rows * 12) cs)) (rowsTo c (c .rows + 1)) s
+    sim-row =
+        let e = length-sets (m .rows) (c .rows * 12) cs in
+        sim-grow x (sets (m .rows) (c .rows * 12) cs) (m .store) (m .names) (c .at) (c .rows + 1) (c .store) (c .names) u (x .limit) (omega arith)
+        (x .settled) (x .storeIn) (x .namesIn)
+        (omega arith) (λ i l. refl)
+        (record {
+          up = omega arith;
+          cols = λ q i d l. (let f = d .0 in let g = d .1 in
+              kept-sets (c .rows * 12) (c .rows * 12) cs (m .rows) (omega arith) (q * 12 + i) (omega arith));
+          fill = omega arith;
+          texts = λ b z l. refl;
+        })
+        (λ q l e. kept-sets (c .rows * 12) (c .rows * 12) cs (m .rows) (omega arith) (q * 12 + 11) (omega arith) ∙ e)
+
+  -- a name more
+  pub sim-name : (b z : ℕ) → c .names * 2 + 2 ≤ length (m .names)
+      → Sim u (withNames m (sets (m .names) (c .names * 2) (b ∷ z ∷ []))) (namesTo c (c .names + 1)) s
+  sim-name b z h =
+      let e = length-sets (m .names) (c .names * 2) (b ∷ z ∷ []) in
+      sim-grow x (m .rows) (m .store) (sets (m .names) (c .names * 2) (b ∷ z ∷ [])) (c .at) (c .rows) (c .store) (c .names + 1) u (x .limit)
+      (x .rowsIn) (x .settled) (x .storeIn) (omega arith)
+      (omega arith) (kept-sets (c .names * 2) (c .names * 2) (b ∷ z ∷ []) (m .names) (omega arith))
+      (record { up = omega arith; cols = λ r j d l. refl; fill = omega arith; texts = λ b z l. refl }) (λ r l e. e)
+
+-- ---- the tables
+
+abbrev pub addText : List ℕ → Tables → Tables
+addText xs s = record { texts = s .texts ++ xs ∷ []; objects = s .objects; traits = s .traits }
+
+abbrev pub addTraits : Traits → Tables → Tables
+addTraits t s = record { texts = s .texts; objects = s .objects; traits = s .traits ++ t ∷ [] }
+
+abbrev pub addObject : Tables → Tables
+addObject s = record { texts = s .texts; objects = s .objects ++ none ∷ []; traits = s .traits }
+
+abbrev pub setObject : ℕ → Tree → Tables → Tables
+setObject i t s = record { texts = s .texts; objects = set (s .objects) i (some t); traits = s .traits }
+
+-- place i of a table with one entry more is an old one, or the new one
+at-end : {A : Type 0} (d y : A) (xs : List A) (n i : ℕ) (P : ℕ → A → Type 0) → n ≡ length xs → (i < n → P i (getD xs i d)) → P n y → i < n + 1
+    → P i (getD (xs ++ y ∷ []) i d)
+at-end d y xs n i P e old new h = elim (decLt i n) [
+  | yes l ↦ let k : i < length xs = omega arith in rw List·getD-append (old l)
+  | no l ↦
+      (let q : i ≡ n = omega arith in
+      let w : getD (xs ++ y ∷ []) i d ≡ y = rw (q, e, getD-append-seam) in
+      rw w (rw q new))
+]
+
+module _ {u : ℕ} {m : Memory} {c : Cursor} {s : Tables} (x : Sim u m c s) where
+  pub sim-text : (b z : ℕ) (xs : List ℕ) → c .strings * 2 + 2 ≤ length (m .strings) → Text (m .store) u b z xs
+      → Sim u (withStrings m (sets (m .strings) (c .strings * 2) (b ∷ z ∷ []))) (stringsTo c (c .strings + 1)) (addText xs s)
+  sim-text b z xs h t =
+      let y = x .strings in
+      record {
+        limit = x .limit;
+        rowsIn = x .rowsIn;
+        settled = x .settled;
+        storeIn = x .storeIn;
+        namesIn = x .namesIn;
+        kinds = x .kinds;
+        objects = x .objects;
+        strings = record {
+          fits = (let e = length-sets (m .strings) (c .strings * 2) (b ∷ z ∷ []) in omega arith);
+          many = rw (y .many, length-append) (omega arith);
+          each = λ i l. at-end [] xs (s .texts) (c .strings) i (λ i t. Text (m .store) u (getD T (i * 2) 0) (getD T (i * 2 + 1) 0) t) (y .many)
+              (λ o. old i o) new l;
+        };
+      }
+    where
+      T : List ℕ
+      T = sets (m .strings) (c .strings * 2) (b ∷ z ∷ [])
+
+      same : Kept (c .strings * 2) (m .strings) T
+      same = kept-sets (c .strings * 2) (c .strings * 2) (b ∷ z ∷ []) (m .strings) (omega arith)
+
+      old : (i : ℕ) → i < c .strings → Text (m .store) u (getD T (i * 2) 0) (getD T (i * 2 + 1) 0) (getD (s .texts) i [])
+      old i o = rw (same (i * 2) (omega arith), same (i * 2 + 1) (omega arith)) (x .strings .each i o)
+
+      new : Text (m .store) u (getD T (c .strings * 2) 0) (getD T (c .strings * 2 + 1) 0) xs
+      new =
+          let p : getD T (c .strings * 2 + 0) 0 ≡ b = sets-at (b ∷ z ∷ []) (m .strings) (c .strings * 2) 0 (omega arith) h in
+          let q : getD T (c .strings * 2 + 1) 0 ≡ z = sets-at (b ∷ z ∷ []) (m .strings) (c .strings * 2) 1 (omega arith) h in
+          let e : c .strings * 2 + 0 ≡ c .strings * 2 = omega arith in
+          rw (rw e at p, q) t
+
+  pub sim-trait : (t : Trait) (k : Traits) → c .traits * 5 + 5 ≤ length (m .traits) → TraitRep (m .store) u (m .names) (c .names) t k
+      → Sim u (withTraits m (sets (m .traits) (c .traits * 5) (t .begin ∷ t .size ∷ t .dynamic ∷ t .first ∷ t .count ∷ [])))
+      (traitsTo c (c .traits + 1)) (addTraits k s)
+  sim-trait t k h r =
+      let y = x .kinds in
+      record {
+        limit = x .limit;
+        rowsIn = x .rowsIn;
+        settled = x .settled;
+        storeIn = x .storeIn;
+        namesIn = x .namesIn;
+        strings = x .strings;
+        objects = x .objects;
+        kinds = record {
+          fits = (let e = length-sets (m .traits) (c .traits * 5) (t .begin ∷ t .size ∷ t .dynamic ∷ t .first ∷ t .count ∷ []) in omega arith);
+          many = rw (y .many, length-append) (omega arith);
+          each = λ i l. at-end noTraits k (s .traits) (c .traits) i (λ i k. TraitRep (m .store) u (m .names) (c .names) (traitAt U i) k) (y .many)
+              (λ o. old i o) new l;
+        };
+      }
+    where
+      U : List ℕ
+      U = sets (m .traits) (c .traits * 5) (t .begin ∷ t .size ∷ t .dynamic ∷ t .first ∷ t .count ∷ [])
+
+      same : Kept (c .traits * 5) (m .traits) U
+      same = kept-sets (c .traits * 5) (c .traits * 5) (t .begin ∷ t .size ∷ t .dynamic ∷ t .first ∷ t .count ∷ []) (m .traits) (omega arith)
+
+      old : (i : ℕ) → i < c .traits → TraitRep (m .store) u (m .names) (c .names) (traitAt U i) (getD (s .traits) i noTraits)
+      old i o =
+          rw (
+            same (i * 5) (omega arith),
+            same (i * 5 + 1) (omega arith),
+            same (i * 5 + 2) (omega arith),
+            same (i * 5 + 3) (omega arith),
+            same
+                (i * 5 + 4) (omega arith),
+          )
+          (x .kinds .each i o)
+
+      at : (j : ℕ) → j < 5 → getD U (c .traits * 5 + j) 0 ≡ getD (t .begin ∷ t .size ∷ t .dynamic ∷ t .first ∷ t .count ∷ []) j 0
+      at j l = sets-at (t .begin ∷ t .size ∷ t .dynamic ∷ t .first ∷ t .count ∷ []) (m .traits) (c .traits * 5) j (omega arith) h
+
+      new : TraitRep (m .store) u (m .names) (c .names) (traitAt U (c .traits)) k
+      new =
+          let e : c .traits * 5 + 0 ≡ c .traits * 5 = omega arith in
+          rw (rw e at (at 0 (omega arith)), at 1 (omega arith), at 2 (omega arith), at 3 (omega arith), at 4 (omega arith)) r
+
+  -- an open row enters the objects
+  pub sim-object : (r : ℕ) → c .objects < length (m .objects) → r < c .rows → cell (m .rows) r colEnd ≡ 0
+      → ((i : ℕ) → i < c .objects → getD (m .objects) i 0 < r)
+      → Sim u (withObjects m (set (m .objects) (c .objects) r)) (objectsTo c (c .objects + 1)) (addObject s)
+  sim-object r h l o below =
+      let y = x .objects in
+      record {
+        limit = x .limit;
+        rowsIn = x .rowsIn;
+        settled = x .settled;
+        storeIn = x .storeIn;
+        namesIn = x .namesIn;
+        strings = x .strings;
+        kinds = x .kinds;
+        objects = record {
+          fits = rw length-set (omega arith);
+          many = rw (y .many, length-append) (omega arith);
+          each = λ i k. at-end none none (s .objects) (c .objects) i (λ i t. Entry (landOf u m c) (getD O i 0) t) (y .many)
+              (λ o. rw (same i o) (y .each i o)) (rw here (l, o)) k;
+          order = λ i j a b. ordered i j a b;
+        };
+      }
+    where
+      O : List ℕ
+      O = set (m .objects) (c .objects) r
+
+      same : Kept (c .objects) (m .objects) O
+      same = kept-set (c .objects) (c .objects) r (m .objects) (omega arith)
+
+      here : getD O (c .objects) 0 ≡ r
+      here = getD-set-same (m .objects) (c .objects) r 0 h
+
+      ordered : (i j : ℕ) → i < j → j < c .objects + 1 → getD O i 0 < getD O j 0
+      ordered i j a b = elim (decLt j (c .objects)) [
+        | yes k ↦ rw (same i (omega arith), same j k) (x .objects .order i j a k)
+        | no k ↦ (let q : j ≡ c .objects = omega arith in rw (q, here, same i (omega arith)) (below i (omega arith)))
+      ]
+
+  -- row r ends; it is object i, or no object
+  pub sim-close : (r i : ℕ) (t : Tree) → cell (m .rows) r colEnd ≡ 0 → ((j : ℕ) → j < c .objects → j ≢ i → getD (m .objects) j 0 ≢ r)
+      → (i < c .objects → (getD (m .objects) i 0 ≡ r) × Own t (land (put (m .rows) r colEnd (c .rows)) (c .rows) (m .store) u) r)
+      → Sim u (withRows m (put (m .rows) r colEnd (c .rows))) c (setObject i t s)
+  sim-close r i t o others mine =
+      let y = x .objects in
+      record {
+        limit = x .limit;
+        rowsIn = rw length-set (x .rowsIn);
+        settled = x .settled;
+        storeIn = x .storeIn;
+        namesIn = x .namesIn;
+        strings =
+            x .strings;
+        kinds = x .kinds;
+        objects = record {
+          fits = y .fits;
+          many = rw length-set (y .many);
+          each = λ j l. elim (ℕ-discrete j i) [
+            | yes e ↦ (let k : i < length (s .objects) = (let q = y .many in omega arith) in let q = mine (omega arith) in
+                rw (e, getD-set-same, q .0) (q .1))
+            | no e ↦ rw getD-set-other (entry (getD (m .objects) j 0) (getD (s .objects) j none) (others j l e) (y .each j l))
+          ];
+          order = y .order;
+        };
+      }
+    where
+      entry : (q : ℕ) (z : Option Tree) → q ≢ r → Entry (landOf u m c) q z
+          → Entry (land (put (m .rows) r colEnd (c .rows)) (c .rows) (m .store) u) q z
+      entry q none d h = let f : q * 12 + 11 ≢ r * 12 + 11 = omega arith in (h .0, rw getD-set-other (h .1))
+      entry q (some z) d h = own-ext (ext-put x r colEnd (c .rows) o (omega arith)) z q h

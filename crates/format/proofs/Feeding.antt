@@ -1,0 +1,503 @@
+-- Feeding is reading: the bytes one by one, and then the end, give what the whole reading gives.
+-- `sem s` is what a state still has to read. One byte of it is one step, and where there is no byte it is the end.
+use mathlib.Core.Path.{_≡_, refl, sym, _∙_}
+use mathlib.Core.Bool.{Bool, true, false, cond}
+use mathlib.Core.List.{List, [], _∷_}
+use Prim.Native.Nat.{ℕ, zero, suc, _+_, _*_, _-_, _/_, _^_}
+use native.Mathlib.Omega.{arith}
+use lib.Dec.{leb, ltb}
+use lib.ListN.{length}
+use borrow.Author.Tests.{leb-true, leb-false}
+use Rattle.rows.specs.declared.Cursor.{Cursor}
+use Rattle.rows.specs.declared.Span.{Span}
+use Rattle.rows.specs.declared.Key.{Key}
+use Rattle.rows.specs.declared.Trait.{Trait}
+use Rattle.rows.specs.Memory.{Memory, fresh, zeroed, faultOf, messageLimit, openLimit, colCount, colCount2, noSpan, noKey}
+use Rattle.wire.specs.declared.Part.{Part}
+use Rattle.wire.specs.declared.Part.the-variants.{More, Whole, Astray}
+use Rattle.wire.specs.declared.Size.{Size}
+use Rattle.wire.specs.declared.Size.the-variants.{Old, New}
+use Rattle.wire.specs.declared.Shape.{Shape}
+use Rattle.wire.specs.declared.Shape.the-variants.{Object, Known, External, Inline}
+use Rattle.wire.specs.U29.{partOf}
+use Rattle.wire.specs.Word.{sizeOf, shapeOf}
+use Rattle.wire.specs.Big.{digitOf}
+use Rattle.format.specs.declared.Frame.{Frame}
+use Rattle.format.specs.Decide.{Out, stop, give, refuse, lost, looking, onRows, onStrings, onTraits, onNames}
+use Rattle.format.specs.Decide.{Body, xml, date, array, bytes, raw, objects, dictionary, Kind, leaf, integer, double, string, object, sized}
+use Rattle.format.specs.Decide.{marker, closed, numbered, integerEnd, dateEnd, bodied, vectorClass, fixed, weak, flagged}
+use Rattle.format.specs.Decide.{counted, judged, textEnd, traitOf, named, traitEnd}
+use Rattle.format.specs.Decide.{sealedKey, starred}
+use Rattle.format.specs.Reading.{ok, bad, bind, _>>=_, _>>_, ret, Result, Reader, decided, by, byte, u29, number, chars, fill, textOf, text, plain}
+use Rattle.format.specs.Reading.{Values, entries, pair, pairs, names, dynamics as dynamicsOf, members as membersRead, inlined, objectOf, room, charsOf}
+use Rattle.format.specs.Reading.{filled, newOf, sizedOf, marked, value, Ended, finished, refusal, ended, unlessFault, reading, onPart as partRead}
+use Rattle.format.specs.Step.{Pairing, assoc, dynamics, dense, vector, countOf, Task, pairsOf, itemsOf, membersOf, keysOf, valuesOf, strange}
+use Rattle.format.specs.Step.{taskOf, frameOf, Use}
+use Rattle.format.specs.Step.{forString, forKey, forClass, forExternal, forName, forVector, Text, xmlText, tableText, Word, integerWord, objectWord}
+use Rattle.format.specs.Step.{sizeWord, textWord, Number, doubleBits, dateBits, Flag, rawFlag, objectsFlag, dictionaryFlag, Raw, rawVector}
+use Rattle.format.specs.Step.{Mode, atMarker, atWord, atNumber, atFlag, atText, atRaw, astray, State, wait, over, none, on, atString, nextKey}
+use Rattle.format.specs.Step.{go, entry, pop, onward, keyed, members, naming, had, textDone, reservedFor, stringSized, roomy, texting, rawRow}
+use Rattle.format.specs.Step.{filling, opened, bodySized, objectShaped, worded, numberDone, flagDone, rawGrown, begun, onPart, act, step, run, end}
+use Rattle.format.specs.Step.{beginAt, begin}
+
+-- ---- what is done after a reader
+
+abbrev Cont : Type 0 → Type 0
+Cont A = A → Memory → Cursor → List ℕ → Ended
+
+abbrev andThen : {A : Type 0} → Result A → Cont A → Ended
+andThen (ok a m c bs) k = k a m c bs
+andThen (bad n told place m) k = refusal n told place m
+
+-- a reader after a reader
+flat : {A B : Type 0} (v : Result A) (f : A → Reader B) (k : Cont B) → andThen (bind v f) k ≡ andThen v (λ a m c bs. andThen (f a m c bs) k)
+flat (ok a m c bs) f k = refl
+flat (bad n told place m) f k = refl
+
+-- the same after it
+same : {A : Type 0} (v : Result A) (k l : Cont A) → ((a : A) (m : Memory) (c : Cursor) (bs : List ℕ) → k a m c bs ≡ l a m c bs) → andThen v k ≡ andThen v l
+same (ok a m c bs) k l h = h a m c bs
+same (bad n told place m) k l h = refl
+
+pub on-bool : {X : Type 0} (t : Bool) → (t ≡ true → X) → (t ≡ false → X) → X
+on-bool true f g = f refl
+on-bool false f g = g refl
+
+-- ---- what is left to read
+
+-- what reads the values in a value around which these frames are
+abbrev inner : List Frame → Values
+inner ts = value (openLimit - suc (length ts))
+
+abbrev close : ℕ → Reader Unit
+close row = by (onRows (closed row))
+
+abbrev items : Values → ℕ → ℕ → ℕ → ℕ → Reader Unit
+items rd row col n done = entries (λ done. rd noKey) row col n done
+
+abbrev doubles : Values → ℕ → ℕ → ℕ → Reader Unit
+doubles rd row n done = entries (λ done. rd noKey >> rd noKey) row colCount n done
+
+abbrev sealeds : Values → ℕ → ℕ → ℕ → ℕ → Reader Unit
+sealeds rd row first n done = entries (λ done. by (looking (λ m. sealedKey (first + done) (m .names))) >>= rd) row colCount n done
+
+-- pairs: their row, the column that counts them, how many are done, and what follows them
+abbrev rowOf : Pairing → ℕ
+rowOf (assoc row n done) = row
+rowOf (dynamics row done) = row
+
+abbrev colOf : Pairing → ℕ
+colOf (assoc row n done) = colCount
+colOf (dynamics row done) = colCount2
+
+abbrev doneOf : Pairing → ℕ
+doneOf (assoc row n done) = done
+doneOf (dynamics row done) = done
+
+abbrev afterPairs : Values → Pairing → Reader Unit
+afterPairs rd (assoc row n done) = items rd row colCount2 n 0 >> close row
+afterPairs rd (dynamics row done) = close row
+
+-- they are read before a key of them, and after it
+pairing : Values → Pairing → Reader Unit
+pairing rd p = pairs rd (rowOf p) (colOf p) (messageLimit - doneOf p) (doneOf p) >> afterPairs rd p
+
+afterKey : Values → Pairing → Span → ℕ → Reader Unit
+afterKey rd p s l =
+    pair rd (rowOf p) (colOf p) (doneOf p) (pairs rd (rowOf p) (colOf p) (messageLimit - suc (doneOf p)) (suc (doneOf p))) s l >> afterPairs rd p
+
+task : Values → Task → Reader Unit
+task rd (pairsOf p) = pairing rd p
+task rd (itemsOf i row n done) = items rd row (countOf i) n done >> close row
+task rd (membersOf row n done first y) = sealeds rd row first n done >> dynamicsOf rd row y >> close row
+task rd (keysOf row n done) = doubles rd row n done >> close row
+task rd (valuesOf row n done) = rd noKey >> by (onRows (counted row colCount done)) >> doubles rd row n (suc done) >> close row
+task rd strange = by (λ m c. lost)
+
+-- an entry of a task is finished: what it has left
+counts : Task → Reader Task
+counts (pairsOf (assoc row n done)) = by (onRows (counted row colCount done)) >> ret (pairsOf (assoc row n (suc done)))
+counts (pairsOf (dynamics row done)) = by (onRows (counted row colCount2 done)) >> ret (pairsOf (dynamics row (suc done)))
+counts (itemsOf i row n done) = by (onRows (counted row (countOf i) done)) >> ret (itemsOf i row n (suc done))
+counts (membersOf row n done first y) = by (onRows (counted row colCount done)) >> ret (membersOf row n (suc done) first y)
+counts (keysOf row n done) = ret (valuesOf row n done)
+counts (valuesOf row n done) = by (onRows (counted row colCount done)) >> ret (keysOf row n (suc done))
+counts strange = by (λ m c. lost)
+
+-- so many names of a trait, its entry, and the members
+namesLeft : Values → ℕ → Trait → ℕ → Reader Unit
+namesLeft rd row t n = names n >> by (onTraits (traitEnd t)) >> membersRead rd row t
+
+afterUse : Values → Use → Span → Reader Unit
+afterUse rd (forString row) s = by (onRows (bodied row s)) >> close row
+afterUse rd (forKey p) s = afterKey rd p s (s .size)
+afterUse rd (forClass row n y) s = λ m c. inlined rd row (traitOf s n y c) m c
+afterUse rd forExternal s = by (λ m c. refuse 6 0 c)
+afterUse rd (forName row t n) s = by (onNames (named s)) >> namesLeft rd row t n
+afterUse rd (forVector row n) s =
+    by (looking (λ m. starred s (m .store))) >>= (λ star. by (onRows (vectorClass row star s)) >> items rd row colCount n 0 >> close row)
+
+-- what is done when its span is reserved
+abbrev atUse : Use → Span → Reader Unit
+atUse u s = by (reservedFor u s)
+
+afterText : Values → Text → Span → Bool → Reader Unit
+afterText rd (xmlText row) s valid = by (looking (λ m. judged valid)) >> close row
+afterText rd (tableText u) s valid = by (onStrings (textEnd s valid)) >>= afterUse rd u
+
+afterWord : Values → Word → ℕ → Reader Unit
+afterWord rd (integerWord row) n = by (onRows (integerEnd row n))
+afterWord rd (objectWord row) n = objectOf rd row (shapeOf n)
+afterWord rd (sizeWord row body) n = sizedOf rd row body (sizeOf n)
+afterWord rd (textWord u) n = textOf (atUse u) (sizeOf n) >>= afterUse rd u
+
+afterNumber : Number → ℕ → Reader Unit
+afterNumber (doubleBits row) bits = by (onRows (numbered row bits))
+afterNumber (dateBits row) bits = by (onRows (dateEnd row bits))
+
+abbrev growing : Raw → Span → ℕ → Reader Unit
+growing r s left = by (rawGrown r s left)
+
+afterFlag : Values → Flag → ℕ → Reader Unit
+afterFlag rd (rawFlag row w s) b = by (onRows (flagged row (fixed b))) >> filled (growing (rawVector row w) s) s (s .size) >> close row
+afterFlag rd (objectsFlag row n) b = by (onRows (flagged row (fixed b))) >> text plain >>= afterUse rd (forVector row n)
+afterFlag rd (dictionaryFlag row n) b = by (onRows (flagged row (weak b))) >> doubles rd row n 0 >> close row
+
+-- what the frames around still have to read, when a value of theirs is finished
+rest : List Frame → Cont Unit
+rest [] = λ x m c bs. finished c m
+rest (f ∷ ts) = λ x m c bs. andThen (counts (taskOf f) m c bs) (λ t m c bs. andThen (task (inner ts) t m c bs) (rest ts))
+
+-- what a mode still has to read of its value
+left : Mode → List Frame → Reader Unit
+left (atMarker k) ts = value (openLimit - length ts) k
+left (atWord w n part) ts = u29 n part >>= afterWord (inner ts) w
+left (atNumber d n part) ts = number n part >>= afterNumber d
+left (atFlag f) ts = byte >>= afterFlag (inner ts) f
+left (atText x s n t) ts = chars s n t >>= afterText (inner ts) x s
+left (atRaw r s n) ts = fill (growing r s) s n >> close (rawRow r)
+left astray ts = byte >>= (λ b. by (λ m c. lost))
+
+sem : State → List ℕ → Ended
+sem (over e) bs = e
+sem (none m) bs = refusal 12 0 0 m
+sem (wait x ts c m) bs = andThen (left x ts m c bs) (rest ts)
+
+-- ---- one law for every decision
+
+sem-on : {A : Type 0} (o : Out Memory A) (m : Memory) (f : A → Cursor → Memory → State) (bs : List ℕ)
+    → sem (on o m f) bs ≡ andThen (decided o m bs) (λ a m c bs. sem (f a c m) bs)
+unfolding sem
+sem-on (stop n told place) m f bs = refl
+sem-on (give a m c) _ f bs = refl
+
+sem-over : (e : Ended) (bs : List ℕ) → sem (over e) bs ≡ e
+unfolding sem
+sem-over e bs = refl
+
+sem-none : (m : Memory) (bs : List ℕ) → sem (none m) bs ≡ refusal 12 0 0 m
+unfolding sem
+sem-none m bs = refl
+
+-- ---- tasks
+
+-- a task is read back from its frame
+task-of : (t : Task) → taskOf (frameOf t) ≡ t
+unfolding taskOf frameOf
+task-of (pairsOf (assoc row left done)) = refl
+task-of (pairsOf (dynamics row done)) = refl
+task-of (itemsOf dense row left done) = refl
+task-of (itemsOf vector row left done) = refl
+task-of (membersOf row left done first y) = refl
+task-of (keysOf row left done) = refl
+task-of (valuesOf row left done) = refl
+task-of strange = refl
+
+none-done : messageLimit - 0 ≡ messageLimit
+none-done = omega arith
+
+module _ (ts : List Frame) where
+  -- a string is next
+  sem-use : (u : Use) (c : Cursor) (m : Memory) (bs : List ℕ)
+      → sem (wait (atString u) ts c m) bs ≡ andThen (text (atUse u) m c bs) (λ s m c bs. andThen (afterUse (inner ts) u s m c bs) (rest ts))
+  unfolding sem left afterWord text
+  sem-use u c m bs = simp flat
+
+  -- the next key, if there are not too many before it
+  sem-next : (p : Pairing) (c : Cursor) (m : Memory) (bs : List ℕ)
+      → sem (nextKey (doneOf p) p ts c m) bs ≡ andThen (pairing (inner ts) p m c bs) (rest ts)
+  unfolding pairing pairs afterUse afterKey reservedFor
+  sem-next p c m bs = on-bool (leb messageLimit (doneOf p))
+      (λ e. let z : messageLimit - doneOf p ≡ 0 = omega (arith, leb-true) in rw (e, z) (sem-over _ bs))
+      (λ e. let z : messageLimit - doneOf p ≡ suc (messageLimit - suc (doneOf p)) = omega (arith, leb-false) in
+      rw (e, z) (simp (sem-use, flat)))
+
+  -- a value of a task is next
+  sem-child : (key : Key) (t : Task) (c : Cursor) (m : Memory) (bs : List ℕ) → sem (wait (atMarker key) (frameOf t ∷ ts) c m) bs
+      ≡ andThen (inner ts key m c bs) (λ x m c bs. andThen (counts t m c bs) (λ t m c bs. andThen (task (inner ts) t m c bs) (rest ts)))
+  unfolding sem left rest
+  sem-child key t c m bs = simp (sem, rest, task-of)
+
+  module _ (k : Cursor → Memory → State) (h : (c : Cursor) (m : Memory) (bs : List ℕ) → sem (k c m) bs ≡ rest ts tt m c bs) where
+    sem-go : (t : Task) (c : Cursor) (m : Memory) (bs : List ℕ) → sem (go k ts t c m) bs ≡ andThen (task (inner ts) t m c bs) (rest ts)
+    unfolding go task entries dynamicsOf counts pairing
+    sem-go (pairsOf (assoc row n done)) c m bs = sem-next (assoc row n done) c m bs
+    sem-go (pairsOf (dynamics row done)) c m bs = sem-next (dynamics row done) c m bs
+    sem-go (itemsOf i row zero done) c m bs = simp (go, sem-on, h)
+    sem-go (itemsOf i row (suc n) done) c m bs = simp (go, sem-child, flat)
+    sem-go (membersOf row zero done first zero) c m bs = simp (go, sem-on, h)
+    sem-go (membersOf row zero done first (suc y)) c m bs = sem-next (dynamics row 0) c m bs ∙ rw none-done
+    sem-go (membersOf row (suc n) done first y) c m bs = simp (go, sem-on, sem-child, flat)
+    sem-go (keysOf row zero done) c m bs = simp (sem-on, h)
+    sem-go (keysOf row (suc n) done) c m bs = simp (go, sem-child, flat)
+    sem-go (valuesOf row n done) c m bs = simp (go, sem-child, flat)
+    sem-go strange c m bs = sem-over _ bs
+
+-- an entry of a task is finished
+sem-entry : (t : Task) (c : Cursor) (m : Memory) (f : Task → Cursor → Memory → State) (bs : List ℕ)
+    → sem (entry t c m f) bs ≡ andThen (counts t m c bs) (λ t m c bs. sem (f t c m) bs)
+unfolding entry counts
+sem-entry (pairsOf (assoc row n done)) c m f bs = simp (sem-on, flat)
+sem-entry (pairsOf (dynamics row done)) c m f bs = simp (sem-on, flat)
+sem-entry (itemsOf i row n done) c m f bs = simp (sem-on, flat)
+sem-entry (membersOf row n done first y) c m f bs = simp (sem-on, flat)
+sem-entry (keysOf row n done) c m f bs = refl
+sem-entry (valuesOf row n done) c m f bs = simp (sem-on, flat)
+sem-entry strange c m f bs = sem-over _ bs
+
+-- a value is finished
+sem-pop : (ts : List Frame) (c : Cursor) (m : Memory) (bs : List ℕ) → sem (pop ts c m) bs ≡ rest ts tt m c bs
+unfolding pop rest
+sem-pop [] c m bs = sem-over _ bs
+sem-pop (f ∷ ts) c m bs = sem-entry (taskOf f) c m _ bs ∙ same (counts (taskOf f) m c bs) _ _ (λ t m c bs. sem-go ts (pop ts) (sem-pop ts) t c m bs)
+
+-- ---- each waiting point; `the rest` is what the frames around have left
+
+-- the value in work goes on with a task
+module _ (ts : List Frame) where
+  sem-onward : (t : Task) (c : Cursor) (m : Memory) (bs : List ℕ) → sem (onward ts t c m) bs ≡ andThen (task (inner ts) t m c bs) (rest ts)
+  sem-onward t c m bs = sem-go ts (pop ts) (sem-pop ts) t c m bs
+
+  sem-members : (row : ℕ) (t : Trait) (c : Cursor) (m : Memory) (bs : List ℕ)
+      → sem (members ts row t c m) bs ≡ andThen (membersRead (inner ts) row t m c bs) (rest ts)
+  unfolding task membersRead
+  sem-members row t c m bs = sem-onward (membersOf row (t .count) 0 (t .first) (t .dynamic)) c m bs
+
+  sem-wait : (x : Mode) (c : Cursor) (m : Memory) (bs : List ℕ) → sem (wait x ts c m) bs ≡ andThen (left x ts m c bs) (rest ts)
+  unfolding sem
+  sem-wait x c m bs = refl
+
+  -- ---- strings and texts
+
+  sem-keyed : (p : Pairing) (s : Span) (n : ℕ) (c : Cursor) (m : Memory) (bs : List ℕ)
+      → sem (keyed ts p s n c m) bs ≡ andThen (afterKey (inner ts) p s n m c bs) (rest ts)
+  unfolding keyed afterKey pair task pairing counts
+  sem-keyed (assoc row n done) s zero c m bs = sem-onward (itemsOf dense row n 0) c m bs
+  sem-keyed (dynamics row done) s zero c m bs = simp (keyed, sem-on, sem-pop)
+  sem-keyed (assoc row n done) s (suc l) c m bs = simp (keyed, sem-child, flat)
+  sem-keyed (dynamics row done) s (suc l) c m bs = simp (keyed, sem-child, flat)
+
+  sem-naming : (row : ℕ) (t : Trait) (n : ℕ) (c : Cursor) (m : Memory) (bs : List ℕ)
+      → sem (naming ts row t n c m) bs ≡ andThen (namesLeft (inner ts) row t n m c bs) (rest ts)
+  unfolding naming namesLeft names afterUse reservedFor
+  sem-naming row t zero c m bs = simp (naming, sem-on, sem-members, flat)
+  sem-naming row t (suc n) c m bs = sem-use ts (forName row t n) c m bs ∙ simp flat
+
+  sem-had : (u : Use) (s : Span) (c : Cursor) (m : Memory) (bs : List ℕ) → sem (had ts u s c m) bs ≡ andThen (afterUse (inner ts) u s m c bs) (rest ts)
+  unfolding had afterUse inlined namesLeft task
+  sem-had (forString row) s c m bs = simp (had, sem-on, sem-pop, flat)
+  sem-had (forKey p) s c m bs = sem-keyed p s (s .size) c m bs
+  sem-had (forClass row n y) s c m bs = simp (had, sem-on, sem-naming, flat)
+  sem-had forExternal s c m bs = sem-over _ bs
+  sem-had (forName row t n) s c m bs = simp (had, sem-on, sem-naming, flat)
+  sem-had (forVector row n) s c m bs = simp (had, sem-on, sem-onward, flat)
+
+  sem-text : (x : Text) (s : Span) (valid : Bool) (c : Cursor) (m : Memory) (bs : List ℕ)
+      → sem (textDone ts x s valid c m) bs ≡ andThen (afterText (inner ts) x s valid m c bs) (rest ts)
+  unfolding textDone afterText
+  sem-text (xmlText row) s valid c m bs = simp (textDone, sem-on, sem-pop, flat)
+  sem-text (tableText u) s valid c m bs = simp (textDone, sem-on, sem-had, flat)
+
+  -- ---- words
+
+  sem-string : (u : Use) (z : Size) (c : Cursor) (m : Memory) (bs : List ℕ)
+      → sem (stringSized ts u z c m) bs ≡ andThen (bind (textOf (atUse u) z m c bs) (afterUse (inner ts) u)) (rest ts)
+  unfolding stringSized textOf left afterText
+  sem-string u (Old i) c m bs = simp (stringSized, sem-on, sem-had, flat)
+  sem-string u (New zero) c m bs = sem-had u noSpan c m bs
+  sem-string u (New (suc n)) c m bs = simp (stringSized, sem-on, sem-wait, flat)
+
+  sem-room : (row n : ℕ) (f : Span → Cursor → Memory → State) (c : Cursor) (m : Memory) (bs : List ℕ)
+      → sem (roomy row n c m f) bs ≡ andThen (room row n m c bs) (λ s m c bs. sem (f s c m) bs)
+  unfolding roomy room
+  sem-room row zero f c m bs = refl
+  sem-room row (suc n) f c m bs = simp (roomy, sem-on, flat)
+
+  sem-texting : (row : ℕ) (s : Span) (n : ℕ) (c : Cursor) (m : Memory) (bs : List ℕ)
+      → sem (texting ts row s n c m) bs ≡ andThen (charsOf s n m c bs) (λ valid m c bs. andThen (afterText (inner ts) (xmlText row) s valid m c bs) (rest ts))
+  unfolding texting charsOf left afterText judged
+  sem-texting row s zero c m bs = simp (texting, sem-on, sem-pop)
+  sem-texting row s (suc n) c m bs = simp (texting, sem-wait, flat)
+
+  sem-filling : (r : Raw) (s : Span) (n : ℕ) (c : Cursor) (m : Memory) (bs : List ℕ)
+      → sem (filling ts r s n c m) bs ≡ andThen (filled (growing r s) s n m c bs) (λ x m c bs. andThen (close (rawRow r) m c bs) (rest ts))
+  unfolding filling filled left
+  sem-filling r s zero c m bs = simp (filling, sem-on, sem-pop)
+  sem-filling r s (suc n) c m bs = simp (filling, sem-wait, flat)
+
+  sem-opened : (row : ℕ) (body : Body) (n : ℕ) (c : Cursor) (m : Memory) (bs : List ℕ)
+      → sem (opened ts row body n c m) bs ≡ andThen (newOf (inner ts) row body n m c bs) (rest ts)
+  unfolding opened newOf pairing left afterText afterNumber afterFlag afterUse rawGrown
+  sem-opened row xml n c m bs = simp (opened, sem-room, sem-texting, flat)
+  sem-opened row date n c m bs = simp (opened, sem-wait, flat)
+  sem-opened row array n c m bs = sem-next ts (assoc row n 0) c m bs ∙ rw none-done (simp flat)
+  sem-opened row bytes n c m bs = simp (opened, sem-room, sem-filling, flat)
+  sem-opened row (raw w) n c m bs = simp (opened, sem-room, sem-wait, flat)
+  sem-opened row objects n c m bs = simp (opened, sem-wait, flat)
+  sem-opened row dictionary n c m bs = simp (opened, sem-wait, flat)
+
+  sem-body : (row : ℕ) (body : Body) (z : Size) (c : Cursor) (m : Memory) (bs : List ℕ)
+      → sem (bodySized ts row body z c m) bs ≡ andThen (sizedOf (inner ts) row body z m c bs) (rest ts)
+  unfolding bodySized sizedOf
+  sem-body row body (Old i) c m bs = simp (bodySized, sem-on, sem-pop)
+  sem-body row body (New n) c m bs = simp (bodySized, sem-on, sem-opened, flat)
+
+  sem-object : (row : ℕ) (z : Shape) (c : Cursor) (m : Memory) (bs : List ℕ)
+      → sem (objectShaped ts row z c m) bs ≡ andThen (objectOf (inner ts) row z m c bs) (rest ts)
+  unfolding objectShaped objectOf afterUse reservedFor
+  sem-object row (Object i) c m bs = simp (objectShaped, sem-on, sem-pop)
+  sem-object row (Known i) c m bs = simp (objectShaped, sem-on, sem-members, flat)
+  sem-object row External c m bs = simp (objectShaped, sem-on, sem-use, flat)
+  sem-object row (Inline n y) c m bs = simp (objectShaped, sem-on, sem-use, flat)
+
+  sem-word : (w : Word) (n : ℕ) (c : Cursor) (m : Memory) (bs : List ℕ)
+      → sem (worded ts w n c m) bs ≡ andThen (afterWord (inner ts) w n m c bs) (rest ts)
+  unfolding worded afterWord
+  sem-word (integerWord row) n c m bs = simp (worded, sem-on, sem-pop)
+  sem-word (objectWord row) n c m bs = sem-object row (shapeOf n) c m bs
+  sem-word (sizeWord row body) n c m bs = sem-body row body (sizeOf n) c m bs
+  sem-word (textWord u) n c m bs = sem-string u (sizeOf n) c m bs
+
+  -- ---- numbers, flags, markers
+
+  sem-number : (d : Number) (bits : ℕ) (c : Cursor) (m : Memory) (bs : List ℕ)
+      → sem (numberDone ts d bits c m) bs ≡ andThen (afterNumber d bits m c bs) (rest ts)
+  unfolding numberDone afterNumber
+  sem-number (doubleBits row) bits c m bs = simp (numberDone, sem-on, sem-pop)
+  sem-number (dateBits row) bits c m bs = simp (numberDone, sem-on, sem-pop)
+
+  sem-flag : (f : Flag) (b : ℕ) (c : Cursor) (m : Memory) (bs : List ℕ)
+      → sem (flagDone ts f b c m) bs ≡ andThen (afterFlag (inner ts) f b m c bs) (rest ts)
+  unfolding flagDone afterFlag afterUse reservedFor task
+  sem-flag (rawFlag row w s) b c m bs = simp (flagDone, sem-on, sem-filling, flat)
+  sem-flag (objectsFlag row n) b c m bs = simp (flagDone, sem-on, sem-use, flat)
+  sem-flag (dictionaryFlag row n) b c m bs = simp (flagDone, sem-on, sem-onward, flat)
+
+  sem-begun : (row : ℕ) (k : Kind) (c : Cursor) (m : Memory) (bs : List ℕ)
+      → sem (begun ts row k c m) bs ≡ andThen (marked (inner ts) row k m c bs) (rest ts)
+  unfolding begun marked left afterWord afterNumber afterUse reservedFor
+  sem-begun row leaf c m bs = sem-pop ts c m bs
+  sem-begun row integer c m bs = simp (begun, sem-wait, flat)
+  sem-begun row double c m bs = simp (begun, sem-wait, flat)
+  sem-begun row string c m bs = simp (begun, sem-use, flat)
+  sem-begun row object c m bs = simp (begun, sem-wait, flat)
+  sem-begun row (sized body) c m bs = simp (begun, sem-wait, flat)
+
+-- ---- a byte
+
+-- after a byte of a number
+abbrev parted : Part → Memory → (ℕ → Ended) → (ℕ → Ended) → Ended
+parted (More n) m more whole = more n
+parted (Whole n) m more whole = whole n
+parted Astray m more whole = refusal 12 0 0 m
+
+sem-part : (p : Part) (m : Memory) (more whole : ℕ → State) (bs : List ℕ)
+    → sem (onPart p m more whole) bs ≡ parted p m (λ n. sem (more n) bs) (λ n. sem (whole n) bs)
+sem-part (More n) m more whole bs = refl
+sem-part (Whole n) m more whole bs = refl
+sem-part Astray m more whole bs = sem-over _ bs
+
+part-read : (p : Part) (rd : ℕ → Reader ℕ) (m : Memory) (c : Cursor) (bs : List ℕ) (k : Cont ℕ)
+    → andThen (partRead rd p m c bs) k ≡ parted p m (λ n. andThen (rd n m c bs) k) (λ n. k n m c bs)
+part-read (More n) rd m c bs k = refl
+part-read (Whole n) rd m c bs k = refl
+part-read Astray rd m c bs k = refl
+
+-- its last byte
+part-last : (n b : ℕ) (m : Memory) (more whole : ℕ → Ended)
+    → parted (partOf 0 n b) m more whole ≡ cond (leb (2 ^ 21) n) (refusal 12 0 0 m) (whole (n * 2 ^ 8 + b))
+unfolding partOf
+part-last n b m more whole = on-bool (leb (2 ^ 21) n) (λ e. rw e) (λ e. rw e)
+
+digit-last : (n b : ℕ) (m : Memory) (more whole : ℕ → Ended)
+    → parted (digitOf 0 n b) m more whole ≡ cond (leb (2 ^ 56) n) (refusal 12 0 0 m) (whole (n * 2 ^ 8 + b))
+unfolding digitOf
+digit-last n b m more whole = on-bool (leb (2 ^ 56) n) (λ e. rw e) (λ e. rw e)
+
+-- where no value may open, a marker is refused whatever would come after it
+shut : (key : Key) (b : ℕ) (m : Memory) (c : Cursor) (k l : Cont ℕ) (bs : List ℕ)
+    → andThen (by (onRows (marker key 0 b)) m c bs) k ≡ andThen (by (onRows (marker key 0 b)) m c bs) l
+unfolding marker
+shut key b m c k l bs =
+    on-bool (ltb (length (m .rows) / 12) (c .rows)) (λ e. rw e) (λ e. rw e (on-bool (ltb 0x11 b) (λ e. rw e) (λ e. rw e)))
+
+pred-suc : (n : ℕ) → suc n - 1 ≡ n
+pred-suc n = omega arith
+
+module _ (ts : List Frame) (c : Cursor) (m : Memory) (bs : List ℕ) where
+  sem-marker : (key : Key) (d : ℕ) → openLimit - length ts ≡ d
+      → andThen (value d key m c bs) (rest ts) ≡ andThen (byte m c bs) (λ b m c bs. sem (act (atMarker key) b ts c m) bs)
+  unfolding value act
+  sem-marker key zero e = rw e (simp (act, sem-on, sem-begun, flat) (same (byte m c bs) _ _ (λ b m c bs. shut key b m c _ _ bs)))
+  sem-marker key (suc d) e = let z : openLimit - suc (length ts) ≡ d = omega arith in rw e (simp (act, sem-on, sem-begun, flat, z))
+
+  -- what a mode has to read is a byte, and then what the byte makes of it
+  sem-byte : (x : Mode) → sem (wait x ts c m) bs ≡ andThen (byte m c bs) (λ b m c bs. sem (act x b ts c m) bs)
+  unfolding sem left act u29 number chars fill filled
+  sem-byte (atMarker k) = sem-marker k (openLimit - length ts) refl
+  sem-byte (atWord w zero n) = simp (act, sem-part, sem-word, part-read, part-last, flat)
+  sem-byte (atWord w (suc l) n) = simp (act, sem-part, sem-word, part-read, pred-suc, flat)
+  sem-byte (atNumber d zero n) = simp (act, sem-part, sem-number, part-read, digit-last, flat)
+  sem-byte (atNumber d (suc l) n) = simp (act, sem-part, sem-number, part-read, pred-suc, flat)
+  sem-byte (atFlag f) = simp (act, sem-flag, flat)
+  sem-byte (atText x s zero t) = simp (act, sem-on, sem-text, flat)
+  sem-byte (atText x s (suc n) t) = simp (act, sem-on, sem-wait, flat)
+  sem-byte (atRaw r s zero) = simp (act, sem-on, sem-filling, flat)
+  sem-byte (atRaw r s (suc n)) = simp (act, sem-on, sem-filling, flat)
+  sem-byte astray = simp (act, sem-over, flat)
+
+-- ---- a step, an end, a run
+
+sem-step : (s : State) (b : ℕ) (bs : List ℕ) → sem (step b s) bs ≡ sem s (b ∷ bs)
+unfolding step byte
+sem-step (over e) b bs = simp sem-over
+sem-step (none m) b bs = simp (sem-over, sem-none)
+sem-step (wait x ts c m) b bs =
+    on-bool (leb messageLimit (c .at)) (λ e. rw e (sem-over _ bs ∙ sym (rw e at (sem-byte ts c m (b ∷ bs) x))))
+    (λ e. rw e (sym (rw e at (sem-byte ts c m (b ∷ bs) x))))
+
+sem-end : (s : State) → sem s [] ≡ end s
+unfolding end byte
+sem-end (over e) = sem-over e []
+sem-end (none m) = sem-none m []
+sem-end (wait x ts c m) = sem-byte ts c m [] x
+
+run-sem : (bs : List ℕ) (s : State) → end (run s bs) ≡ sem s bs
+unfolding run
+run-sem [] s = sym (sem-end s)
+run-sem (b ∷ bs) s = run-sem bs (step b s) ∙ sem-step s b bs
+
+sem-ended : (v : Result Unit) → andThen v (rest []) ≡ ended v
+unfolding rest ended
+sem-ended (ok x m c bs) = refl
+sem-ended (bad n told place m) = refl
+
+begin-sem : (fault : ℕ) (m : Memory) (bs : List ℕ)
+    → sem (beginAt fault m) bs ≡ unlessFault fault m (ended (value openLimit noKey (zeroed m) fresh bs))
+unfolding sem left
+begin-sem zero m bs = let z : openLimit - 0 ≡ openLimit = omega arith in rw z (sem-ended (value openLimit noKey (zeroed m) fresh bs))
+begin-sem (suc loan) m bs = refl
+
+pub feeding : (m : Memory) (bs : List ℕ) → end (run (begin m) bs) ≡ reading m bs
+unfolding begin reading
+feeding m bs = run-sem bs (beginAt (faultOf m) m) ∙ begin-sem (faultOf m) m bs

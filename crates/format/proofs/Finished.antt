@@ -1,0 +1,115 @@
+-- Every table that an unaltered reading finished passes 13, and passes 14 unless it has a date over 2 ^ 53.
+use mathlib.Core.Path.{_≡_, refl, sym, ap, _∙_}
+use mathlib.Core.Bool.{true}
+use mathlib.Core.List.{List}
+use Prim.Native.Nat.{ℕ, zero, suc, _+_, _*_, _^_, _<_, _≤_}
+use native.Mathlib.Omega.{arith}
+use lib.ListN.{length, take}
+use lib.Seq.{length-take-le, getD-take}
+use Rattle.rows.specs.declared.Cursor.{Cursor}
+use Rattle.rows.specs.Memory.{Memory, zeroed, fresh, faultOf, openLimit, noKey, rowWidth, colKind, colNumber}
+use Rattle.rows.specs.Kinds.{kindDate}
+use Rattle.format.specs.Reading.{Result, Ended, finished, ended, unlessFault, value, reading}
+use Rattle.format.specs.Step.{over, run, end, begin}
+use Rattle.format.specs.Unfold.{rowsIn, col}
+use Rattle.format.specs.RowTest.{wellFormed, fine, tested, keyless}
+use Rattle.format.proofs.Feeding.{feeding}
+use Rattle.format.proofs.Lands.{land, bare, Ext, sound-ext}
+use Rattle.format.proofs.Meaning.{usedRows}
+use Rattle.format.proofs.RowTests.{Passes, Table, Writes, well-formed, all-write, passing, fine-without}
+use Rattle.format.proofs.Stages.{Kept, part-kept, landOf, Ok, Val}
+use Rattle.format.proofs.Posts.{Post, stops, gets}
+use Rattle.format.proofs.ValueRows.{value-reads}
+
+-- nothing is used yet
+ok-fresh : (m : Memory) → Ok m fresh
+ok-fresh m =
+    record {
+      rowsIn = omega arith;
+      storeIn = omega arith;
+      strings = λ i h. absurd (omega arith);
+      names = λ i h. absurd (omega arith);
+      traits = λ i h. absurd (omega arith);
+      objects = λ i h. absurd (omega arith);
+    }
+
+-- what the reading of the whole message leaves
+finished-val : {Q : Memory → Cursor → Type 0} (x : Result Unit) (c : Cursor) (m : Memory) → Post (λ u. Q) x → ended x ≡ finished c m → Q m c
+unfolding ended
+finished-val x c m stops e = let z : _≡_ {A = ℕ} 0 1 = cc in absurd (omega arith)
+finished-val {Q} x c m (gets {m = m₁} {c = c₁} h) e = let p : m₁ ≡ m = cc in let q : c₁ ≡ c = cc in rw (p, q) at h
+
+-- no loan is faulty then
+not-faulty : (n : ℕ) (m : Memory) (x : Ended) (c : Cursor) (m′ : Memory) → unlessFault n m x ≡ finished c m′ → x ≡ finished c m′
+not-faulty zero m x c m′ e = e
+not-faulty (suc n) m x c m′ e = cc
+
+pub reading-val : (m : Memory) (bs : List ℕ) (c : Cursor) (m′ : Memory) → reading m bs ≡ finished c m′ → Val keyless (zeroed m) fresh m′ c
+unfolding reading
+reading-val m bs c m′ e =
+    finished-val (value openLimit noKey (zeroed m) fresh bs) c m′ (value-reads openLimit keyless noKey (zeroed m) fresh bs (ok-fresh (zeroed m)) bare)
+    (not-faulty (faultOf m) m _ c m′ e)
+
+-- with a store that is the same as far as it was used
+pub finished-table : (m : Memory) (bs : List ℕ) (c : Cursor) (m′ : Memory) → reading m bs ≡ finished c m′ → (B : List ℕ) → c .store ≤ length B
+    → Kept (c .store) (m′ .store) B
+    → Table (usedRows c m′) B (c .store)
+finished-table m bs c m′ e B l k =
+    let v = reading-val m bs c m′ e in
+    let a = v .ok .rowsIn in
+    let s = v .ok .storeIn in
+    let w = v .newer in
+    let R : List ℕ = take (c .rows * 12) (m′ .rows) in
+    let n : length R ≡ c .rows * 12 = length-take-le (c .rows * 12) (m′ .rows) a in
+    let q : rowsIn R ≡ c .rows = omega arith in
+    let x : Ext (landOf m′ c) (land R (rowsIn R) B (c .store)) =
+    record {
+      up = omega arith;
+      cols = λ i j d h. (let p = d .0 in let r = d .1 in getD-take (c .rows * 12) (m′ .rows) (i * 12 + j) 0 (omega arith));
+      fill = omega arith;
+      parts = λ b z h. part-kept (c .store) (m′ .store) B b z k s l h;
+    } in
+    record {
+      room = l;
+      all = λ i h. sound-ext x (v .each i (omega arith) (omega arith));
+      some = omega arith;
+      root = getD-take (c .rows * 12) (m′ .rows) 1 0 (omega arith) ∙ v .marked .mark;
+      last = getD-take (c .rows * 12) (m′ .rows) 11 0 (omega arith) ∙ v .fin ∙ sym q;
+    }
+
+module _ (m : Memory) (bs : List ℕ) (c : Cursor) (m′ : Memory) (e : reading m bs ≡ finished c m′) where
+  -- the store as it was lent, and the part of it that was used
+  pub whole-table : Table (usedRows c m′) (m′ .store) (c .store)
+  whole-table = finished-table m bs c m′ e (m′ .store) ((reading-val m bs c m′ e) .ok .storeIn) (λ i h. refl)
+
+  pub used-table : Table (usedRows c m′) (take (c .store) (m′ .store)) (c .store)
+  used-table =
+      let s = (reading-val m bs c m′ e) .ok .storeIn in
+      finished-table m bs c m′ e (take (c .store) (m′ .store)) (let n = length-take-le (c .store) (m′ .store) s in omega arith)
+      (λ i h. getD-take (c .store) (m′ .store) i 0 h)
+
+  -- no row is malformed
+  pub finished-well-formed : (i : ℕ) → i < rowsIn (usedRows c m′) → wellFormed (usedRows c m′) (m′ .store) i ≡ true
+  finished-well-formed = well-formed whole-table
+
+  -- every row can be written, but for late dates
+  pub finished-writes : (i : ℕ) → i < rowsIn (usedRows c m′) → Writes (usedRows c m′) (m′ .store) i
+  finished-writes = all-write whole-table
+
+  -- so that the test passes, or finds such a date
+  pub finished-passes : Passes (usedRows c m′) (tested (usedRows c m′) (m′ .store))
+  finished-passes = passing whole-table
+
+  pub finished-passes-used : Passes (usedRows c m′) (tested (usedRows c m′) (take (c .store) (m′ .store)))
+  finished-passes-used = passing used-table
+
+  -- without such a date it passes
+  pub finished-fine : ((i : ℕ) → col (usedRows c m′) i colKind ≡ kindDate → col (usedRows c m′) i colNumber ≤ 2 ^ 53)
+      → tested (usedRows c m′) (m′ .store) ≡ fine
+  finished-fine h = fine-without finished-passes h
+
+-- fed in pieces it is the same table
+pub fed-passes : (m : Memory) (bs : List ℕ) (c : Cursor) (m′ : Memory) → run (begin m) bs ≡ over (finished c m′)
+    → Passes (usedRows c m′) (tested (usedRows c m′) (m′ .store))
+unfolding end
+fed-passes m bs c m′ e = finished-passes m bs c m′ (sym (feeding m bs) ∙ ap end e)

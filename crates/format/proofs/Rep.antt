@@ -1,0 +1,294 @@
+-- Rows stand for trees: what it means, and that they go on doing so while rows and store grow.
+use mathlib.Core.Path.{_≡_, refl, sym, _∙_, subst}
+use mathlib.Core.Bool.{Bool, true, false, cond, not}
+use mathlib.Core.List.{List, [], _∷_}
+use mathlib.Core.Option.{Option, none, some}
+use Prim.Native.Nat.{ℕ, suc, _+_, _<_, _≤_}
+use native.Mathlib.Omega.{arith}
+use borrow.Author.Tests.{eqb-true}
+use lib.Dec.{eqb}
+use lib.ListN.{getD}
+use Rattle.rows.specs.Memory.{colKind, colKeyBegin, colKeySize, colBodyBegin, colBodySize, colClassMark, colFlag, colNumber, colCount, colCount2}
+use Rattle.rows.specs.Memory.{colEnd, cell}
+use Rattle.wire.specs.Sign.{ofColumn}
+use Rattle.format.specs.Unfold.{part}
+use Rattle.format.specs.Standard.{undefined, null, boolean, integer, double, string, xmlDocument, xml, byteArray, date, intVector, uintVector}
+use Rattle.format.specs.Standard.{doubleVector, Tree, plain, array, object, objectVector, dictionary, Trees, nil, cons, Pairs, noPairs, pair, Entries}
+use Rattle.format.specs.Standard.{noEntries, entry, count, countPairs, countEntries}
+
+-- the rows, how many are used, the store, and how far it is settled
+pub record Land : Type 0 where
+  pub rows : List ℕ
+  pub used : ℕ
+  pub store : List ℕ
+  pub full : ℕ
+
+abbrev pub land : List ℕ → ℕ → List ℕ → ℕ → Land
+land R n B u = record { rows = R; used = n; store = B; full = u }
+
+abbrev pub col : Land → ℕ → ℕ → ℕ
+col L r j = cell (L .rows) r j
+
+-- a row that ends where rows are used
+abbrev pub Done : Land → ℕ → Type 0
+Done L r = (r < col L r colEnd) × (col L r colEnd ≤ L .used)
+
+-- xs is the text of a span of the settled store
+abbrev pub Text : List ℕ → ℕ → ℕ → ℕ → List ℕ → Type 0
+Text B u begin size xs = (part B begin size ≡ xs) × (begin + size ≤ u)
+
+-- ---- what a row shows of itself
+
+pub record Face : Type 0 where
+  pub kind : ℕ
+  pub mark : ℕ
+  pub flag : ℕ
+  pub number : ℕ
+  pub first : ℕ
+  pub second : ℕ
+  pub body : List ℕ
+
+abbrev pub face : Land → ℕ → Face
+face L r =
+    record {
+      kind = col L r colKind;
+      mark = col L r colClassMark;
+      flag = col L r colFlag;
+      number = col L r colNumber;
+      first = col L r colCount;
+      second = col L r colCount2;
+      body = part (L .store) (col L r colBodyBegin) (col L r colBodySize);
+    }
+
+abbrev pub flagOf : Face → Bool
+flagOf F = not (eqb (F .flag) 0)
+
+abbrev pub classOf : Face → Option (List ℕ)
+classOf F = cond (eqb (F .mark) 0) none (some (F .body))
+
+-- no leaf
+abbrev pub other : Tree
+other = array noPairs nil
+
+abbrev pub leaf : Face → Tree
+leaf F =
+    getD (other ∷ plain undefined ∷ plain null ∷ plain (boolean (not (eqb (F .number) 0))) ∷ plain (integer (ofColumn (F .number)))
+    ∷ plain (double (F .number)) ∷ plain (string (F .body)) ∷ plain (xmlDocument (F .body)) ∷ plain (date (F .number)) ∷ other ∷ other
+    ∷ plain (xml (F .body)) ∷ plain (byteArray (F .body)) ∷ plain (intVector (flagOf F) (F .body))
+    ∷ plain (uintVector (flagOf F) (F .body)) ∷ plain (doubleVector (flagOf F) (F .body)) ∷ []) (F .kind) other
+
+-- it is the face of a tree's own row
+abbrev pub Is : Tree → Face → Type 0
+Is (plain p) F = leaf F ≡ plain p
+Is (array ps ts) F = (F .kind ≡ 9) × (F .first ≡ countPairs ps) × (F .second ≡ count ts)
+Is (object x ps qs) F = (F .kind ≡ 10) × (classOf F ≡ x) × (F .first ≡ countPairs ps) × (F .second ≡ countPairs qs)
+Is (objectVector f x ts) F = (F .kind ≡ 16) × (flagOf F ≡ f) × (classOf F ≡ x) × (F .first ≡ count ts)
+Is (dictionary f es) F = (F .kind ≡ 17) × (flagOf F ≡ f) × (F .first ≡ countEntries es)
+
+-- ---- what a row stands for
+
+-- a finished row with its face settled
+abbrev pub Head : Land → ℕ → Type 0
+Head L r = (r < col L r colEnd) × (col L r colEnd ≤ L .used) × (col L r colBodyBegin + col L r colBodySize ≤ L .full)
+
+-- the row whose tree it is: a reference's is another, which ended before
+abbrev pub goal : Land → ℕ → ℕ
+goal L r = cond (eqb (col L r colKind) 18) (col L r colNumber) r
+
+pub data From (L : Land) (r g : ℕ) : Type 0 where
+  itself : g ≡ r → From L r g
+  before : col L g colEnd ≤ r → From L r g
+
+abbrev mutual
+  -- row r itself, no reference
+  pub Own : Tree → Land → ℕ → Type 0
+  Own (plain p) L r = Head L r × Is (plain p) (face L r)
+  Own (array ps ts) L r = Head L r × Is (array ps ts) (face L r) × ((e : ℕ) × RepP ps L (suc r) e × RepT ts L e (col L r colEnd))
+  Own (object x ps qs) L r = Head L r × Is (object x ps qs) (face L r) × ((e : ℕ) × RepP ps L (suc r) e × RepP qs L e (col L r colEnd))
+  Own (objectVector f x ts) L r = Head L r × Is (objectVector f x ts) (face L r) × RepT ts L (suc r) (col L r colEnd)
+  Own (dictionary f es) L r = Head L r × Is (dictionary f es) (face L r) × RepE es L (suc r) (col L r colEnd)
+
+  -- rows from k on, each from where the one before ends, up to row e
+  pub RepT : Trees → Land → ℕ → ℕ → Type 0
+  RepT nil L k e = k ≡ e
+  RepT (cons t ts) L k e = (Done L k × From L k (goal L k) × Own t L (goal L k)) × RepT ts L (col L k colEnd) e
+
+  pub RepP : Pairs → Land → ℕ → ℕ → Type 0
+  RepP noPairs L k e = k ≡ e
+  RepP (pair x t ps) L k e =
+      (Done L k × From L k (goal L k) × Own t L (goal L k)) × Text (L .store) (L .full) (col L k colKeyBegin) (col L k colKeySize) x
+      × RepP ps L (col L k colEnd) e
+
+  pub RepE : Entries → Land → ℕ → ℕ → Type 0
+  RepE noEntries L k e = k ≡ e
+  RepE (entry a b es) L k e =
+      (Done L k × From L k (goal L k) × Own a L (goal L k))
+      × (Done L (col L k colEnd) × From L (col L k colEnd) (goal L (col L k colEnd)) × Own b L (goal L (col L k colEnd)))
+      × RepE es L (col L (col L k colEnd) colEnd) e
+
+abbrev pub Rep : Tree → Land → ℕ → Type 0
+Rep t L r = Done L r × From L r (goal L r) × Own t L (goal L r)
+
+pub own-head : (t : Tree) (L : Land) (r : ℕ) → Own t L r → Head L r
+own-head (plain p) L r h = h .0
+own-head (array ps ts) L r h = h .0
+own-head (object x ps qs) L r h = h .0
+own-head (objectVector f x ts) L r h = h .0
+own-head (dictionary f es) L r h = h .0
+
+-- it is no reference
+pub own-goal : (t : Tree) (L : Land) (r : ℕ) → Own t L r → goal L r ≡ r
+own-goal t L r h = test (eqb (col L r colKind) 18) refl
+  where
+    no : (t : Tree) → col L r colKind ≡ 18 → Own t L r → ⊥
+    no (plain p) e h = let z : other ≡ plain p = rw e at (h .1) in let y : _≡_ {A = ℕ} 0 1 = cc in omega arith
+    no (array ps ts) e h = let z = h .1 .0 in omega arith
+    no (object x ps qs) e h = let z = h .1 .0 in omega arith
+    no (objectVector f x ts) e h = let z = h .1 .0 in omega arith
+    no (dictionary f es) e h = let z = h .1 .0 in omega arith
+
+    test : (b : Bool) → eqb (col L r colKind) 18 ≡ b → cond b (col L r colNumber) r ≡ r
+    test false e = refl
+    test true e = absurd (no t (eqb-true _ _ e) h)
+
+pub own-rep : (t : Tree) (L : Land) (r : ℕ) → Own t L r → Rep t L r
+own-rep t L r h = let g = own-goal t L r h in let d = own-head t L r h in ((d .0, d .1), itself g, rw g h)
+
+-- ---- it lasts
+
+-- what is finished and settled in L is in L′
+pub record Ext (L L′ : Land) : Type 0 where
+  pub up : L .used ≤ L′ .used
+  pub cols : (r j : ℕ) → Done L r → j < 12 → col L′ r j ≡ col L r j
+  pub fill : L .full ≤ L′ .full
+  pub texts : (b z : ℕ) → b + z ≤ L .full → part (L′ .store) b z ≡ part (L .store) b z
+
+module _ {L L′ : Land} (x : Ext L L′) where
+  pub done-ext : (r : ℕ) → Done L r → Done L′ r
+  done-ext r h = let u = x .up in rw (x .cols r 11 h (omega arith)) (h .0, omega arith)
+
+  pub text-ext : (b z : ℕ) (xs : List ℕ) → Text (L .store) (L .full) b z xs → Text (L′ .store) (L′ .full) b z xs
+  text-ext b z xs h = let u = x .fill in (x .texts b z (h .1) ∙ h .0, omega arith)
+
+  key-ext : (r : ℕ) (xs : List ℕ) → Done L r → Text (L .store) (L .full) (col L r colKeyBegin) (col L r colKeySize) xs
+      → Text (L′ .store) (L′ .full) (col L′ r colKeyBegin) (col L′ r colKeySize) xs
+  key-ext r xs d h = rw (x .cols r 2 d (omega arith), x .cols r 3 d (omega arith)) (text-ext _ _ xs h)
+
+  head-ext : (r : ℕ) → Head L r → Head L′ r
+  head-ext r h =
+      let d : Done L r = (h .0, h .1) in
+      let u = x .up in
+      let f = x .fill in
+      rw (x .cols r 11 d (omega arith), x .cols r 4 d (omega arith), x .cols r 5 d (omega arith)) (h .0, omega arith, omega arith)
+
+  face-ext : (r : ℕ) → Head L r → face L′ r ≡ face L r
+  face-ext r h =
+      let d : Done L r = (h .0, h .1) in
+      rw (
+        x .cols r 0 d (omega arith),
+        x .cols r 6 d (omega arith),
+        x .cols r 7 d (omega arith),
+        x .cols r 8 d (omega arith),
+        x .cols r 9 d (omega arith),
+        x .cols r 10 d (omega arith),
+        x .cols r 4 d (omega arith),
+        x .cols r 5 d (omega arith),
+        x .texts _ _ (h .2),
+      )
+
+  goal-ext : (r : ℕ) → Done L r → goal L′ r ≡ goal L r
+  goal-ext r d = rw (x .cols r 0 d (omega arith), x .cols r 8 d (omega arith))
+
+  is-ext : (t : Tree) (r : ℕ) → Head L r → Is t (face L r) → Is t (face L′ r)
+  is-ext t r d h = subst (Is t) (sym (face-ext r d)) h
+
+  from-ext : (r g : ℕ) → Done L g → From L r g → From L′ r g
+  from-ext r g d (itself e) = itself e
+  from-ext r g d (before h) = before (rw (x .cols g 11 d (omega arith)) h)
+
+  rep-with : (t : Tree) (k : ℕ) → Rep t L k → Own t L′ (goal L k) → Rep t L′ k
+  rep-with t k h o =
+      let g = goal-ext k (h .0) in
+      let d = own-head t L (goal L k) (h .2) in
+      (done-ext k (h .0), rw g (from-ext k (goal L k) (d .0, d .1) (h .1)), rw g o)
+
+  mutual
+    pub own-ext : (t : Tree) (r : ℕ) → Own t L r → Own t L′ r
+    own-ext (plain p) r h = (head-ext r (h .0), is-ext (plain p) r (h .0) (h .1))
+    own-ext (array ps ts) r h = (
+      head-ext r (h .0),
+      is-ext (array ps ts) r (h .0) (h .1),
+      (
+        h .2 .0,
+        repp-ext ps (suc r) (h .2 .0) (h .2 .1),
+        rw (x .cols r 11 (h .0 .0, h .0 .1) (omega arith)) (rept-ext ts (h .2 .0) (col L r colEnd) (h .2 .2)),
+      ),
+    )
+    own-ext (object z ps qs) r h = (
+      head-ext r (h .0),
+      is-ext (object z ps qs) r (h .0) (h .1),
+      (
+        h .2 .0,
+        repp-ext ps (suc r) (h .2 .0) (h .2 .1),
+        rw (x .cols r 11 (h .0 .0, h .0 .1) (omega arith)) (repp-ext qs (h .2 .0) (col L r colEnd) (h .2 .2)),
+      ),
+    )
+    own-ext (objectVector f z ts) r h = (
+      head-ext r (h .0),
+      is-ext (objectVector f z ts) r (h .0) (h .1),
+      rw (x .cols r 11 (h .0 .0, h .0 .1) (omega arith)) (rept-ext ts (suc r) (col L r colEnd) (h .2)),
+    )
+    own-ext (dictionary f es) r h = (
+      head-ext r (h .0),
+      is-ext (dictionary f es) r (h .0) (h .1),
+      rw (x .cols r 11 (h .0 .0, h .0 .1) (omega arith)) (repe-ext es (suc r) (col L r colEnd) (h .2)),
+    )
+
+    pub rept-ext : (ts : Trees) (k e : ℕ) → RepT ts L k e → RepT ts L′ k e
+    rept-ext nil k e h = h
+    rept-ext (cons t ts) k e h =
+        (rep-with t k (h .0) (own-ext t (goal L k) (h .0 .2)), rw (x .cols k 11 (h .0 .0) (omega arith)) (rept-ext ts (col L k colEnd) e (h .1)))
+
+    pub repp-ext : (ps : Pairs) (k e : ℕ) → RepP ps L k e → RepP ps L′ k e
+    repp-ext noPairs k e h = h
+    repp-ext (pair z t ps) k e h = (
+      rep-with t k (h .0) (own-ext t (goal L k) (h .0 .2)),
+      key-ext k z (h .0 .0) (h .1),
+      rw (x .cols k 11 (h .0 .0) (omega arith)) (repp-ext ps (col L k colEnd) e (h .2)),
+    )
+
+    pub repe-ext : (es : Entries) (k e : ℕ) → RepE es L k e → RepE es L′ k e
+    repe-ext noEntries k e h = h
+    repe-ext (entry a b es) k e h = (
+      rep-with a k (h .0) (own-ext a (goal L k) (h .0 .2)),
+      rw (x .cols k 11 (h .0 .0) (omega arith)) (rep-with b (col L k colEnd) (h .1) (own-ext b (goal L (col L k colEnd)) (h .1 .2))),
+      rw (x .cols k 11 (h .0 .0) (omega arith), x .cols (col L k colEnd) 11 (h .1 .0) (omega arith))
+          (repe-ext es (col L (col L k colEnd) colEnd) e (h .2)),
+    )
+
+  pub rep-ext : (t : Tree) (r : ℕ) → Rep t L r → Rep t L′ r
+  rep-ext t r h = rep-with t r h (own-ext t (goal L r) (h .2))
+
+-- ---- a row from its parts
+
+-- what stands behind row r up to row e
+abbrev pub Kids : Tree → Land → ℕ → ℕ → Type 0
+Kids (plain p) L r e = Unit {0}
+Kids (array ps ts) L r e = (k : ℕ) × RepP ps L (suc r) k × RepT ts L k e
+Kids (object x ps qs) L r e = (k : ℕ) × RepP ps L (suc r) k × RepP qs L k e
+Kids (objectVector f x ts) L r e = RepT ts L (suc r) e
+Kids (dictionary f es) L r e = RepE es L (suc r) e
+
+pub own-of : (t : Tree) (L : Land) (r : ℕ) → Head L r → Is t (face L r) → Kids t L r (col L r colEnd) → Own t L r
+own-of (plain p) L r h i k = (h, i)
+own-of (array ps ts) L r h i k = (h, i, k)
+own-of (object x ps qs) L r h i k = (h, i, k)
+own-of (objectVector f x ts) L r h i k = (h, i, k)
+own-of (dictionary f es) L r h i k = (h, i, k)
+
+pub kids-ext : {L L′ : Land} → Ext L L′ → (t : Tree) (r e : ℕ) → Kids t L r e → Kids t L′ r e
+kids-ext x (plain p) r e h = tt
+kids-ext x (array ps ts) r e h = (h .0, repp-ext x ps (suc r) (h .0) (h .1), rept-ext x ts (h .0) e (h .2))
+kids-ext x (object z ps qs) r e h = (h .0, repp-ext x ps (suc r) (h .0) (h .1), repp-ext x qs (h .0) e (h .2))
+kids-ext x (objectVector f z ts) r e h = rept-ext x ts (suc r) e h
+kids-ext x (dictionary f es) r e h = repe-ext x es (suc r) e h

@@ -1,0 +1,382 @@
+-- The loans between two values, and within one: what holds of them, and that each change to them keeps it.
+use mathlib.Core.Path.{_≡_, refl, _∙_}
+use mathlib.Core.Bool.{true}
+use mathlib.Core.List.{List, _∷_}
+use mathlib.Core.Logic.{_≢_}
+use Prim.Native.Nat.{ℕ, _+_, _*_, _<_, _≤_}
+use native.Mathlib.Omega.{arith}
+use native.Mathlib.Decide.{decLt, ℕ-discrete}
+use lib.ListN.{length, getD, take, drop, set, length-take, length-drop, length-set}
+use lib.Seq.{sets, length-sets, getD-set-same, getD-set-other, getD-take, getD-drop, ext-getD}
+use Rattle.rows.specs.declared.Cursor.{Cursor}
+use Rattle.rows.specs.declared.Key.{Key}
+use Rattle.rows.specs.Memory.{Memory, memory, spanAt, cell, put, colKind, colEnd}
+use Rattle.format.specs.Decide.{rowsTo, objectsTo, traitAt, classOf}
+use Rattle.format.specs.Unfold.{part}
+use Rattle.format.specs.RowTest.{isObject, Given}
+use Rattle.format.proofs.States.{sets-before, sets-in}
+use Rattle.format.proofs.Lands.{Land, land, at, Done, Valid, Meets, Marked, Form, Sound, Ext, form-ext, bare, named, long, sound-ext}
+
+-- ---- lists with some places set
+
+-- the places below u stay
+abbrev pub Kept : ℕ → List ℕ → List ℕ → Type 0
+Kept u l l′ = (i : ℕ) → i < u → getD l′ i 0 ≡ getD l i 0
+
+pub kept-set : (u i v : ℕ) (l : List ℕ) → u ≤ i → Kept u l (set l i v)
+kept-set u i v l h j k = let d : j ≢ i = omega arith in simp getD-set-other
+
+pub kept-sets : (u i : ℕ) (vs l : List ℕ) → u ≤ i → Kept u l (sets l i vs)
+kept-sets u i vs l h j k = sets-before vs l i j (omega arith)
+
+-- a part of the places that stay
+pub part-kept : (u : ℕ) (B C : List ℕ) (b z : ℕ) → Kept u B C → u ≤ length B → u ≤ length C → b + z ≤ u → part C b z ≡ part B b z
+unfolding part
+part-kept u B C b z h f g k =
+    ext-getD 0 (take z (drop b C)) (take z (drop b B)) (simp (length-take, length-drop) (omega arith)) (λ i l.
+    let j : i < z = (let q = l in omega (arith, length-take z (drop b C))) in
+    rw (getD-take z (drop b C) i 0 j, getD-take z (drop b B) i 0 j, getD-drop b C i 0, getD-drop b B i 0) (h (b + i) (omega arith)))
+
+-- ---- memories with one loan changed
+
+abbrev pub withRows : Memory → List ℕ → Memory
+withRows m R = memory R (m .store) (m .strings) (m .objects) (m .traits) (m .names)
+
+abbrev pub landOf : Memory → Cursor → Land
+landOf m c = land (m .rows) (c .rows) (m .store) (c .store)
+
+-- ---- what holds of the loans
+
+pub data Ends (L : Land) (t : ℕ) : Type 0 where
+  still : at L t colEnd ≡ 0 → Ends L t
+  already : Done L t → Ends L t
+
+-- an object's row
+pub record Entry (L : Land) (t : ℕ) : Type 0 where
+  pub below : t < L .used
+  pub kind : isObject (at L t colKind) ≡ true
+  pub ending : Ends L t
+
+-- the texts of strings, names and classes are valid, and objects are rows of such kinds
+pub record Ok (m : Memory) (c : Cursor) : Type 0 where
+  pub rowsIn : c .rows * 12 ≤ length (m .rows)
+  pub storeIn : c .store ≤ length (m .store)
+  pub strings : (i : ℕ) → i < c .strings → Valid (landOf m c) (spanAt (m .strings) i)
+  pub names : (i : ℕ) → i < c .names → Valid (landOf m c) (spanAt (m .names) i)
+  pub traits : (i : ℕ) → i < c .traits → Valid (landOf m c) (classOf (traitAt (m .traits) i))
+  pub objects : (i : ℕ) → i < c .objects → Entry (landOf m c) (getD (m .objects) i 0)
+
+-- m′ and c′ come later: the rows and the store used then are the same
+pub record Keep (m : Memory) (c : Cursor) (m′ : Memory) (c′ : Cursor) : Type 0 where
+  pub rowsUp : c .rows ≤ c′ .rows
+  pub rows : Kept (c .rows * 12) (m .rows) (m′ .rows)
+  pub storeUp : c .store ≤ c′ .store
+  pub store : Kept (c .store) (m .store) (m′ .store)
+  pub long : length (m′ .store) ≡ length (m .store)
+
+pub keep-trans : {m m₁ m₂ : Memory} {c c₁ c₂ : Cursor} → Keep m c m₁ c₁ → Keep m₁ c₁ m₂ c₂ → Keep m c m₂ c₂
+keep-trans x y =
+    let a = x .rowsUp in
+    let b = x .storeUp in
+    let d = y .rowsUp in
+    let e = y .storeUp in
+    record {
+      rowsUp = omega arith;
+      rows = λ i h. y .rows i (omega arith) ∙ x .rows i h;
+      storeUp = omega arith;
+      store = λ i h. y .store i (omega arith) ∙ x .store i h;
+      long = y .long ∙ x .long;
+    }
+
+pub keep-ext : {m m′ : Memory} {c c′ : Cursor} → c .store ≤ length (m .store) → Keep m c m′ c′ → Ext (landOf m c) (landOf m′ c′)
+keep-ext {m} {m′} {c} {c′} s k =
+    let l = k .long in
+    record {
+      up = k .rowsUp;
+      cols = λ i j d h. (let a = d .0 in let b = d .1 in k .rows (i * 12 + j) (omega arith));
+      fill = k .storeUp;
+      parts = λ b z h. part-kept (c .store) (m .store) (m′ .store) b z (k .store) s (omega arith) h;
+    }
+
+-- ---- within a value
+
+-- begun at m₀ and c₀, its row has the columns cs so far, and does not end; the rows behind it are sound
+pub record Stage (m₀ : Memory) (c₀ : Cursor) (cs : List ℕ) (m : Memory) (c : Cursor) : Type 0 where
+  pub ok : Ok m c
+  pub keep : Keep m₀ c₀ m c
+  pub newer : c₀ .rows < c .rows
+  pub row : (j : ℕ) → j < 12 → cell (m .rows) (c₀ .rows) j ≡ getD cs j 0
+  pub long : length cs ≡ 12
+  pub unended : getD cs 11 0 ≡ 0
+  pub each : (i : ℕ) → c₀ .rows < i → i < c .rows → Sound (landOf m c) i
+
+-- a column of a row
+ends-put : {L : Land} {t : ℕ} (R : List ℕ) → cell R t colEnd ≡ at L t colEnd → Ends L t → Ends (land R (L .used) (L .store) (L .full)) t
+ends-put R e (still h) = still (e ∙ h)
+ends-put R e (already h) = already (rw e h)
+
+ok-put : {m : Memory} {c : Cursor} → Ok m c → (r j v : ℕ) → ((i : ℕ) → i < c .objects → getD (m .objects) i 0 * 12 + 0 ≢ r * 12 + j) → j < 11
+    → Ok (withRows m (put (m .rows) r j v)) c
+ok-put {m} {c} x r j v a b =
+    record {
+      rowsIn = rw length-set (x .rowsIn);
+      storeIn = x .storeIn;
+      strings = x .strings;
+      names = x .names;
+      traits = x .traits;
+      objects = λ i h.
+          (let t : ℕ = getD (m .objects) i 0 in
+          let e = x .objects i h in
+          let p = a i h in
+          let q : t * 12 + 11 ≢ r * 12 + j = omega arith in
+          record { below = e .below; kind = rw getD-set-other (e .kind); ending = ends-put (put (m .rows) r j v) (simp getD-set-other) (e .ending) });
+    }
+
+-- a row's end
+ok-close : {m : Memory} {c : Cursor} → Ok m c → (r : ℕ) → r < c .rows → Ok (withRows m (put (m .rows) r colEnd (c .rows))) c
+ok-close {m} {c} x r l =
+    record {
+      rowsIn = rw length-set (x .rowsIn);
+      storeIn = x .storeIn;
+      strings = x .strings;
+      names = x .names;
+      traits = x .traits;
+      objects = λ i h.
+          (let t : ℕ = getD (m .objects) i 0 in
+          let e = x .objects i h in
+          let p : t * 12 + 0 ≢ r * 12 + 11 = omega arith in
+          record {
+            below = e .below;
+            kind = rw getD-set-other (e .kind);
+            ending = elim (ℕ-discrete t r) [
+              | yes w ↦
+                  (let a : r * 12 + 11 < length (m .rows) = (let b = x .rowsIn in omega arith) in
+                  let z : cell (put (m .rows) r colEnd (c .rows)) t colEnd ≡ c .rows = rw (w, getD-set-same) in
+                  already (rw z (rw w l, omega arith)))
+              | no w ↦ (let q : t * 12 + 11 ≢ r * 12 + 11 = omega arith in ends-put (put (m .rows) r colEnd (c .rows)) (simp getD-set-other) (e .ending))
+            ];
+          });
+    }
+
+-- one of a row that is open
+ext-put : (m : Memory) (c : Cursor) (r j v : ℕ) → cell (m .rows) r colEnd ≡ 0 → j < 12 → Ext (landOf m c) (landOf (withRows m (put (m .rows) r j v)) c)
+ext-put m c r j v o w =
+    record {
+      up = omega arith;
+      cols = λ q i d l.
+          (let f : q ≢ r = λ e. (let z : q < cell (m .rows) r colEnd = rw (← e) (d .0) in absurd (omega arith)) in
+          let g : q * 12 + i ≢ r * 12 + j = omega arith in
+          simp getD-set-other);
+      fill = omega arith;
+      parts = λ b z l. refl;
+    }
+
+module _ {m₀ : Memory} {c₀ : Cursor} {cs : List ℕ} {m : Memory} {c : Cursor} (x : Stage m₀ c₀ cs m c) where
+  pub open-row : cell (m .rows) (c₀ .rows) colEnd ≡ 0
+  open-row = x .row 11 (omega arith) ∙ x .unended
+
+  pub keep-put : (j v : ℕ) → Keep m₀ c₀ (withRows m (put (m .rows) (c₀ .rows) j v)) c
+  keep-put j v =
+      let k = x .keep in
+      record {
+        rowsUp = k .rowsUp;
+        rows = λ i l. kept-set (c₀ .rows * 12) (c₀ .rows * 12 + j) v (m .rows) (omega arith) i l ∙ k .rows i l;
+        storeUp = k .storeUp;
+        store = k .store;
+        long = k .long;
+      }
+
+  pub row-put : (j v i : ℕ) → i < 12 → cell (put (m .rows) (c₀ .rows) j v) (c₀ .rows) i ≡ getD (set cs j v) i 0
+  row-put j v i l = elim (ℕ-discrete i j) [
+    | yes q ↦
+        (let a : c₀ .rows * 12 + j < length (m .rows) = (let b = x .newer in let d = x .ok .rowsIn in omega arith) in
+        let b : j < length cs = (let d = x .long in omega arith) in
+        rw (q, getD-set-same (m .rows) (c₀ .rows * 12 + j) v 0, getD-set-same cs j v 0))
+    | no q ↦ (let a : c₀ .rows * 12 + i ≢ c₀ .rows * 12 + j = omega arith in rw
+        (getD-set-other (m .rows) (c₀ .rows * 12 + j) (c₀ .rows * 12 + i) v 0, getD-set-other cs j i v 0) (x .row i l))
+  ]
+
+  pub stage-ext : (j v : ℕ) → j < 12 → Ext (landOf m c) (landOf (withRows m (put (m .rows) (c₀ .rows) j v)) c)
+  stage-ext j v h = ext-put m c (c₀ .rows) j v open-row h
+
+  -- a column of its row; its kind, where it is no object
+  pub stage-set : (j v : ℕ) → ((i : ℕ) → i < c .objects → getD (m .objects) i 0 * 12 + 0 ≢ c₀ .rows * 12 + j) → j < 11
+      → Stage m₀ c₀ (set cs j v) (withRows m (put (m .rows) (c₀ .rows) j v)) c
+  stage-set j v a b =
+      let e : 11 ≢ j = omega arith in
+      record {
+        ok = ok-put (x .ok) (c₀ .rows) j v a b;
+        keep = keep-put j v;
+        newer = x .newer;
+        row = row-put j v;
+        long = rw length-set (x .long);
+        unended = rw getD-set-other (x .unended);
+        each = λ i l h. sound-ext (stage-ext j v (omega arith)) (x .each i l h);
+      }
+
+  pub stage-put : (j v : ℕ) → 0 < j → j < 11 → Stage m₀ c₀ (set cs j v) (withRows m (put (m .rows) (c₀ .rows) j v)) c
+  stage-put j v a b = stage-set j v (λ i h. omega arith) b
+
+  -- later, with what has been read meanwhile
+  pub stage-later : {m′ : Memory} {c′ : Cursor} → Keep m c m′ c′ → Ok m′ c′ → ((i : ℕ) → c .rows ≤ i → i < c′ .rows → Sound (landOf m′ c′) i)
+      → Stage m₀ c₀ cs m′ c′
+  stage-later {m′} {c′} k o more =
+      let a = x .newer in
+      let b = k .rowsUp in
+      record {
+        ok = o;
+        keep = keep-trans (x .keep) k;
+        newer = omega arith;
+        row = λ j h. k .rows (c₀ .rows * 12 + j) (omega arith) ∙ x .row j h;
+        long = x .long;
+        unended = x .unended;
+        each = λ i l h. elim (decLt i (c .rows)) [ yes q ↦ sound-ext (keep-ext (x .ok .storeIn) k) (x .each i l q) | no q ↦ more i (omega arith) h ];
+      }
+
+  -- its row enters the objects
+  pub stage-enter : isObject (getD cs 0 0) ≡ true → c .objects < length (m .objects)
+      → Stage m₀ c₀ cs (memory (m .rows) (m .store) (m .strings) (set (m .objects) (c .objects) (c₀ .rows)) (m .traits) (m .names))
+      (objectsTo c (c .objects + 1))
+  stage-enter o l =
+      let k = x .keep in
+      let y = x .ok in
+      record {
+        ok = record {
+          rowsIn = y .rowsIn;
+          storeIn = y .storeIn;
+          strings = y .strings;
+          names = y .names;
+          traits = y .traits;
+          objects = λ i h. elim (decLt i (c .objects)) [
+            | yes q ↦ rw (kept-set (c .objects) (c .objects) (c₀ .rows) (m .objects) (omega arith) i q) (y .objects i q)
+            | no q ↦
+                (let e : i ≡ c .objects = omega arith in
+                rw (e, getD-set-same) (record { below = x .newer; kind = rw (x .row 0 (omega arith)) o; ending = still open-row }))
+          ];
+        };
+        keep = record { rowsUp = k .rowsUp; rows = k .rows; storeUp = k .storeUp; store = k .store; long = k .long };
+        newer = x .newer;
+        row = x .row;
+        long = x .long;
+        unended = x .unended;
+        each = x .each;
+      }
+
+module _ {m₀ : Memory} {c₀ : Cursor} {cs : List ℕ} {m : Memory} {c : Cursor} (x : Stage m₀ c₀ cs m c) where
+  -- its span; its class
+  pub stage-span : (b z : ℕ) → Stage m₀ c₀ (set (set cs 4 b) 5 z) (withRows m (put (put (m .rows) (c₀ .rows) 4 b) (c₀ .rows) 5 z)) c
+  stage-span b z = stage-put (stage-put x 4 b (omega arith) (omega arith)) 5 z (omega arith) (omega arith)
+
+module _ {m₀ : Memory} {c₀ : Cursor} {cs : List ℕ} {m : Memory} {c : Cursor} (x : Stage m₀ c₀ cs m c) where
+  pub stage-class : (mark b z : ℕ)
+      → Stage m₀ c₀ (set (set (set cs 6 mark) 4 b) 5 z) (withRows m (put (put (put (m .rows) (c₀ .rows) 6 mark) (c₀ .rows) 4 b) (c₀ .rows) 5 z)) c
+  stage-class mark b z = stage-span (stage-put x 6 mark (omega arith) (omega arith)) b z
+
+-- ---- a value that has been read: where it ends, and that all its rows are sound
+
+pub record Val (g : Given) (m₀ : Memory) (c₀ : Cursor) (m : Memory) (c : Cursor) : Type 0 where
+  pub ok : Ok m c
+  pub keep : Keep m₀ c₀ m c
+  pub newer : c₀ .rows < c .rows
+  pub fin : cell (m .rows) (c₀ .rows) colEnd ≡ c .rows
+  pub marked : Marked (landOf m c) g (c₀ .rows)
+  pub each : (i : ℕ) → c₀ .rows ≤ i → i < c .rows → Sound (landOf m c) i
+
+-- the mark that a key asks for
+marked-in : {L : Land} {g : Given} {k : Key} {i : ℕ} → Meets L g k → at L i 1 ≡ k .mark → at L i 3 ≡ k .size → Marked L g i
+marked-in bare a b = record { mark = a; size = λ t. absurd t }
+marked-in (named v) a b = record { mark = a; size = λ t. absurd t }
+marked-in (long v l) a b = record { mark = a; size = λ t. rw b l }
+
+-- a value from its row
+module _ {g : Given} {m₀ : Memory} {c₀ : Cursor} {m : Memory} {c : Cursor} where
+  pub val-of : {kind : ℕ} {k : Key} {cs : List ℕ} → Ok m c → Keep m₀ c₀ m c → c₀ .rows < c .rows → Meets (landOf m c) g k
+      → Form (landOf m c) (c₀ .rows) kind cs
+      → getD cs 7 0 ≡ c .rows → ((j : ℕ) → j < 12 → cell (m .rows) (c₀ .rows) j ≡ getD (kind ∷ k .mark ∷ k .begin ∷ k .size ∷ cs) j 0)
+      → ((i : ℕ) → c₀ .rows < i → i < c .rows → Sound (landOf m c) i) → Val g m₀ c₀ m c
+  val-of {kind} {k} {cs} o q l h f e r more =
+      let z : cell (m .rows) (c₀ .rows) colEnd ≡ c .rows = r 11 (omega arith) ∙ e in
+      record {
+        ok = o;
+        keep = q;
+        newer = l;
+        fin = z;
+        marked = marked-in h (r 1 (omega arith)) (r 3 (omega arith));
+        each = λ i a b. elim (ℕ-discrete i (c₀ .rows)) [
+          | yes w ↦ rw w (record { kind = kind; given = g; key = k; body = cs; top = omega arith; meets = h; form = f; row = r })
+          | no w ↦ more i (omega arith) b
+        ];
+      }
+
+module _ {g : Given} {m₀ : Memory} {c₀ : Cursor} {m : Memory} {c : Cursor} where
+  -- it ends
+  pub stage-close : {kind : ℕ} {k : Key} {cs : List ℕ} → Stage m₀ c₀ (kind ∷ k .mark ∷ k .begin ∷ k .size ∷ cs) m c → Meets (landOf m c) g k
+      → Form (landOf m c) (c₀ .rows) kind (set cs 7 (c .rows)) → Val g m₀ c₀ (withRows m (put (m .rows) (c₀ .rows) colEnd (c .rows))) c
+  stage-close {kind} {k} {cs} x h f =
+      let n = x .long in
+      let a : 7 < length cs = omega arith in
+      let e = stage-ext x 11 (c .rows) (omega arith) in
+      val-of {k = k} (ok-close (x .ok) (c₀ .rows) (x .newer)) (keep-put x 11 (c .rows)) (x .newer) h (form-ext e f) (getD-set-same cs 7 (c .rows) 0 a)
+      (row-put x 11 (c .rows))
+      (λ i l b. sound-ext e (x .each i l b))
+
+-- ---- a row more
+
+module _ {m : Memory} {c : Cursor} (x : Ok m c) (cs : List ℕ) (long : length cs ≡ 12) (room : c .rows * 12 + 12 ≤ length (m .rows)) where
+  abbrev pub grownRows : Memory
+  grownRows = withRows m (sets (m .rows) (c .rows * 12) cs)
+
+  abbrev pub grownBy : Cursor
+  grownBy = rowsTo c (c .rows + 1)
+
+  same-row : (i j : ℕ) → i < c .rows → j < 12 → cell (sets (m .rows) (c .rows * 12) cs) i j ≡ cell (m .rows) i j
+  same-row i j h l = kept-sets (c .rows * 12) (c .rows * 12) cs (m .rows) (omega arith) (i * 12 + j) (omega arith)
+
+  pub begin-keep : Keep m c grownRows grownBy
+  begin-keep =
+      record {
+        rowsUp = omega arith;
+        rows = kept-sets (c .rows * 12) (c .rows * 12) cs (m .rows) (omega arith);
+        storeUp = omega arith;
+        store = λ i h. refl;
+        long = refl;
+      }
+
+  pub begin-ok : Ok grownRows grownBy
+  begin-ok =
+      let e = length-sets (m .rows) (c .rows * 12) cs in
+      record {
+        rowsIn = omega arith;
+        storeIn = x .storeIn;
+        strings = x .strings;
+        names = x .names;
+        traits = x .traits;
+        objects = λ i h.
+            (let y = x .objects i h in
+            let l = y .below in
+            record {
+              below = omega arith;
+              kind = rw (same-row (getD (m .objects) i 0) 0 l (omega arith)) (y .kind);
+              ending = ending
+                  (getD (m .objects) i 0) l (y .ending);
+            });
+      }
+    where
+      ending : (t : ℕ) → t < c .rows → Ends (landOf m c) t → Ends (landOf grownRows grownBy) t
+      ending t l (still h) = still (same-row t 11 l (omega arith) ∙ h)
+      ending t l (already h) = let a = h .1 in already (rw (same-row t 11 l (omega arith)) (h .0, omega arith))
+
+  pub begin-row : (j : ℕ) → j < 12 → cell (sets (m .rows) (c .rows * 12) cs) (c .rows) j ≡ getD cs j 0
+  begin-row j h = sets-in cs (m .rows) (c .rows * 12) (c .rows * 12 + j) j refl (omega arith) (omega arith)
+
+  pub stage-begin : getD cs 11 0 ≡ 0 → Stage m c cs grownRows grownBy
+  stage-begin u =
+      record {
+        ok = begin-ok;
+        keep = begin-keep;
+        newer = omega arith;
+        row = begin-row;
+        long = long;
+        unended = u;
+        each = λ i l h. absurd (omega arith);
+      }

@@ -1,0 +1,149 @@
+-- A state as plain numbers is that state again: its frames, its work, and the rest of the head.
+use mathlib.Core.Path.{_≡_, refl, _∙_}
+use mathlib.Core.Logic.{_≢_}
+use mathlib.Core.Bool.{Bool, true, false, _&&_}
+use mathlib.Core.List.{List, [], _∷_}
+use Prim.Native.Nat.{ℕ, zero, suc, _+_, _*_, _≤_, _<_}
+use native.Mathlib.Omega.{arith}
+use lib.Dec.{T, leb}
+use lib.ListN.{length, getD, set, length-set}
+use lib.Seq.{sets, length-sets, getD-set-same, getD-set-other}
+use Rattle.rows.specs.declared.Span.{Span}
+use Rattle.rows.specs.Memory.{openLimit, noSpan}
+use Rattle.format.specs.declared.Frame.{Frame}
+use Rattle.format.specs.Decide.{xml, date, array, bytes, raw, objects, dictionary, four, eight}
+use Rattle.format.specs.Reading.{finished, refused}
+use Rattle.format.specs.Step.{assoc, dynamics, Use, forString, forKey, forClass, forExternal, forName, forVector, xmlText, tableText}
+use Rattle.format.specs.Step.{integerWord, objectWord, sizeWord, textWord, doubleBits, dateBits, rawFlag, objectsFlag, dictionaryFlag, byteArray, rawVector}
+use Rattle.format.specs.Step.{Mode, atMarker, atWord, atNumber, atFlag, atText, atRaw, astray, State, wait, over, none}
+use Rattle.format.specs.Numbers.{Numbers, frameAt, framesOf, numbersOf, laid, bodyAt, bodyPurpose, useAt, modeOf, useWork, workOf}
+use Rattle.format.specs.Numbers.{stateOf, numbered, memoryOf}
+
+-- ---- stores
+
+pub sets-before : (vs l : List ℕ) (i j : ℕ) → j < i → getD (sets l i vs) j 0 ≡ getD l j 0
+sets-before [] l i j h = refl
+sets-before (v ∷ vs) l i j h =
+    let d : j ≢ i = omega arith in
+    sets-before vs (set l i v) (suc i) j (omega arith) ∙ simp getD-set-other
+
+pub sets-in : (vs l : List ℕ) (i j k : ℕ) → j ≡ i + k → k < length vs → i + length vs ≤ length l → getD (sets l i vs) j 0 ≡ getD vs k 0
+sets-in [] l i j k e b h = absurd (omega arith)
+sets-in (v ∷ vs) l i j zero e b h =
+    let q : j ≡ i = omega arith in
+    let f : i < length l = omega arith in
+    rw q (sets-before vs (set l i v) (suc i) i (omega arith) ∙ simp getD-set-same)
+sets-in (v ∷ vs) l i j (suc k) e b h = sets-in vs (set l i v) (suc i) j k (omega arith) (omega arith) (rw length-set (omega arith))
+
+-- ---- frames
+
+frame-new : (G : List ℕ) (n : ℕ) (f : Frame) → n * 6 + 6 ≤ length G → frameAt (sets G (n * 6) (numbersOf f)) n ≡ f
+unfolding frameAt
+frame-new G n f h =
+    let vs : List ℕ = numbersOf f in
+    rw (
+      sets-in vs G (n * 6) (n * 6) 0 (omega arith) (omega arith) h,
+      sets-in vs G (n * 6) (n * 6 + 1) 1 refl (omega arith) h,
+      sets-in vs G (n * 6) (n * 6 + 2) 2 refl (omega arith) h,
+      sets-in vs G (n * 6) (n * 6 + 3) 3 refl (omega arith) h,
+      sets-in vs G (n * 6) (n * 6 + 4) 4 refl (omega arith) h,
+      sets-in vs G (n * 6) (n * 6 + 5) 5 refl (omega arith) h,
+    )
+
+frame-low : (G vs : List ℕ) (k n : ℕ) → n < k → frameAt (sets G (k * 6) vs) n ≡ frameAt G n
+unfolding frameAt
+frame-low G vs k n h =
+    rw (
+      sets-before vs G (k * 6) (n * 6) (omega arith),
+      sets-before vs G (k * 6) (n * 6 + 1) (omega arith),
+      sets-before vs G (k * 6) (n * 6 + 2) (omega arith),
+      sets-before vs G (k * 6) (n * 6 + 3) (omega arith),
+      sets-before vs G (k * 6) (n * 6 + 4) (omega arith),
+      sets-before vs G (k * 6) (n * 6 + 5) (omega arith),
+    )
+
+frames-low : (G vs : List ℕ) (k n : ℕ) → n ≤ k → framesOf (sets G (k * 6) vs) n ≡ framesOf G n
+unfolding framesOf
+frames-low G vs k zero h = refl
+frames-low G vs k (suc n) h = rw (frame-low G vs k n h, frames-low G vs k n (omega arith))
+
+pub length-laid : (F : List ℕ) (fs : List Frame) → length (laid F fs) ≡ length F
+unfolding laid
+length-laid F [] = refl
+length-laid F (f ∷ fs) = length-sets (laid F fs) (length fs * 6) (numbersOf f) ∙ length-laid F fs
+
+-- frames laid in their places are read back
+pub frames-laid : (F : List ℕ) (fs : List Frame) → length fs * 6 ≤ length F → framesOf (laid F fs) (length fs) ≡ fs
+unfolding laid framesOf
+frames-laid F [] h = refl
+frames-laid F (f ∷ fs) h =
+    let vs : List ℕ = numbersOf f in
+    let l : length (laid F fs) ≡ length F = length-laid F fs in
+    rw (
+      frame-new (laid F fs) (length fs) f (omega arith),
+      frames-low (laid F fs) vs (length fs) (length fs) (omega arith),
+      frames-laid F fs (omega arith),
+    )
+
+-- ---- works
+
+-- a string's word, and its text
+use-of : (u : Use) (s : Span) (left part : ℕ)
+    → (modeOf (workOf (atWord (textWord u) left part)) ≡ atWord (textWord u) left part)
+    × (modeOf (workOf (atText (tableText u) s left part)) ≡ atText (tableText u) s left part)
+unfolding modeOf workOf useWork useAt
+use-of (forString row) s left part = (refl, refl)
+use-of (forKey (assoc row n done)) s left part = (refl, refl)
+use-of (forKey (dynamics row done)) s left part = (refl, refl)
+use-of (forClass row n y) s left part = (refl, refl)
+use-of forExternal s left part = (refl, refl)
+use-of (forName row t n) s left part = (refl, refl)
+use-of (forVector row n) s left part = (refl, refl)
+
+-- the work of a mode is read back as that mode
+pub mode-of : (x : Mode) → modeOf (workOf x) ≡ x
+unfolding modeOf workOf bodyAt bodyPurpose
+mode-of (atMarker k) = refl
+mode-of (atWord (integerWord row) left part) = refl
+mode-of (atWord (objectWord row) left part) = refl
+mode-of (atWord (sizeWord row xml) left part) = refl
+mode-of (atWord (sizeWord row date) left part) = refl
+mode-of (atWord (sizeWord row array) left part) = refl
+mode-of (atWord (sizeWord row bytes) left part) = refl
+mode-of (atWord (sizeWord row objects) left part) = refl
+mode-of (atWord (sizeWord row dictionary) left part) = refl
+mode-of (atWord (sizeWord row (raw four)) left part) = refl
+mode-of (atWord (sizeWord row (raw eight)) left part) = refl
+mode-of (atWord (textWord u) left part) = (use-of u noSpan left part) .0
+mode-of (atNumber (doubleBits row) left part) = refl
+mode-of (atNumber (dateBits row) left part) = refl
+mode-of (atFlag (rawFlag row four s)) = refl
+mode-of (atFlag (rawFlag row eight s)) = refl
+mode-of (atFlag (objectsFlag row n)) = refl
+mode-of (atFlag (dictionaryFlag row n)) = refl
+mode-of (atText (xmlText row) s left test) = refl
+mode-of (atText (tableText u) s left test) = (use-of u s left test) .1
+mode-of (atRaw (byteArray row) s left) = refl
+mode-of (atRaw (rawVector row four) s left) = refl
+mode-of (atRaw (rawVector row eight) s left) = refl
+mode-of astray = refl
+
+-- ---- states
+
+-- states that numbers can show: no more open values than may be, and refusals 1 to 12
+abbrev pub Shown : State → Type 0
+Shown (wait x ts c m) = length ts ≤ openLimit
+Shown (over (finished c m)) = Unit
+Shown (over (refused number told place m)) = T (leb 1 number && leb number 12)
+Shown (none m) = ⊥
+
+is-true : (b : Bool) → T b → b ≡ true
+is-true true h = refl
+is-true false h = absurd h
+
+pub state-numbered : (n : Numbers) (s : State) → length (n .frames) ≡ openLimit * 6 → Shown s → stateOf (numbered n s) (memoryOf s) ≡ s
+unfolding stateOf numbered
+state-numbered n (wait x ts c m) l h = rw (mode-of x, frames-laid (n .frames) ts (omega arith))
+state-numbered n (over (finished c m)) l h = refl
+state-numbered n (over (refused number told place m)) l h = rw (is-true (leb 1 number && leb number 12) h)
+state-numbered n (none m) l h = absurd h

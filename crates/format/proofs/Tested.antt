@@ -1,0 +1,319 @@
+-- What the test of the rows says, where all of them pass: of each row by itself, and of the children of a row, one after the other.
+use mathlib.Core.Path.{_≡_, refl, sym, _∙_}
+use mathlib.Core.Bool.{Bool, true, false, cond, not, _&&_, _||_}
+use mathlib.Core.List.{List}
+use Prim.Native.Nat.{ℕ, zero, suc, _+_, _-_, _<_, _≤_, min}
+use native.Mathlib.Omega.{arith}
+use native.Mathlib.Decide.{ℕ-discrete, decLt}
+use borrow.Author.Tests.{ltb-true, leb-true, eqb-true, eqb-false, eq-eqb, ne-eqb}
+use lib.Dec.{leb, ltb, eqb}
+use lib.ListN.{length, length-take, length-drop}
+use Rattle.rows.specs.Memory.{colKind, colKeyMark, colKeyBegin, colKeySize, colBodyBegin, colBodySize}
+use Rattle.rows.specs.Memory.{colClassMark, colFlag, colNumber, colCount, colCount2, colEnd}
+use Rattle.rows.specs.Kinds.{kindUndefined, kindReference}
+use Rattle.utf8.specs.Grammar.{validText}
+use Rattle.format.specs.Unfold.{rowsIn, col, part, bodyOf, keyText, home, after}
+use Rattle.format.specs.RowTest as test
+use Rattle.format.specs.RowTest.{hasBody, hasClass, hasFlag, hasNumber, hasCount, hasCount2, spanFits, markFits, meant, columnsFit, valueFits}
+use Rattle.format.specs.RowTest.{children, closes, Given, gives, givenIn, given, markOf, isFilled, wellFormed, numberWritable, bodyWritable}
+use Rattle.format.specs.RowTest.{keyWritable, writable, Tested, fine, testFrom, tested}
+
+-- ---- tests joined
+
+never : {X : Type 0} → false ≡ true → X
+never e = let z : _≡_ {A = ℕ} 0 1 = cc in absurd (omega arith)
+
+pub both : (t u : Bool) → (t && u) ≡ true → (t ≡ true) × (u ≡ true)
+both true true e = (refl, refl)
+both true false e = never e
+both false u e = never e
+
+pub neither : (t u : Bool) → (t || u) ≡ false → (t ≡ false) × (u ≡ false)
+neither true u e = never (sym e)
+neither false true e = never (sym e)
+neither false false e = (refl, refl)
+
+-- ---- a row by itself
+
+pub record Row (R B : List ℕ) (i : ℕ) : Type 0 where
+  pub within : i < col R 0 colEnd
+  pub low : kindUndefined ≤ col R i colKind
+  pub high : col R i colKind ≤ kindReference
+  pub key : markFits B (col R i colKeyMark) (col R i colKeyBegin) (col R i colKeySize) ≡ true
+  pub columns : columnsFit R B i (col R i colKind) ≡ true
+  pub value : valueFits R i (col R i colKind) ≡ true
+  pub end : col R i colEnd ≤ rowsIn R
+  pub closed : closes R (col R i colEnd) (suc i) (children R i) ≡ true
+  pub mark : col R i colKeyMark ≡ markOf (given R i i)
+  pub number : numberWritable R i (col R i colKind) ≡ true
+  pub body : bodyWritable R B i (col R i colKind) ≡ true
+  pub name : validText (keyText R B i) ≡ true
+  pub filled : (ltb 0 (col R i colKeySize) || not (isFilled (given R i i))) ≡ true
+
+module _ (R B : List ℕ) where
+  row-of : (i : ℕ) → wellFormed R B i ≡ true → writable R B i ≡ true → Row R B i
+  unfolding wellFormed writable keyWritable
+  row-of i m u =
+      let (m₈, mark) = both _ (eqb (col R i colKeyMark) (markOf (given R i i))) m in
+      let (m₇, closed) = both _ (closes R (col R i colEnd) (suc i) (children R i)) m₈ in
+      let (m₆, end) = both _ (leb (col R i colEnd) (rowsIn R)) m₇ in
+      let (m₅, value) = both _ (valueFits R i (col R i colKind)) m₆ in
+      let (m₄, columns) = both _ (columnsFit R B i (col R i colKind)) m₅ in
+      let (m₃, key) = both _ (markFits B (col R i colKeyMark) (col R i colKeyBegin) (col R i colKeySize)) m₄ in
+      let (m₂, high) = both _ (leb (col R i colKind) kindReference) m₃ in
+      let (within, low) = both (ltb i (col R 0 colEnd)) (leb kindUndefined (col R i colKind)) m₂ in
+      let (u₁, k) = both _ (validText (keyText R B i) && (ltb 0 (col R i colKeySize) || not (isFilled (given R i i)))) u in
+      let (number, body) = both (numberWritable R i (col R i colKind)) (bodyWritable R B i (col R i colKind)) u₁ in
+      let (name, filled) = both (validText (keyText R B i)) (ltb 0 (col R i colKeySize) || not (isFilled (given R i i))) k in
+      record {
+        within = ltb-true i (col R 0 colEnd) within;
+        low = leb-true kindUndefined (col R i colKind) low;
+        high = leb-true (col R i colKind) kindReference high;
+        key = key;
+        columns = columns;
+        value = value;
+        end = leb-true (col R i colEnd) (rowsIn R) end;
+        closed = closed;
+        mark = eqb-true (col R i colKeyMark) (markOf (given R i i)) mark;
+        number = number;
+        body = body;
+        name = name;
+        filled = filled;
+      }
+
+  first-row : (a b : Bool) (i : ℕ) (more : Tested) → cond a (cond b more (test.faulty 14 i)) (test.faulty 13 i) ≡ fine
+      → (a ≡ true) × (b ≡ true) × (more ≡ fine)
+  first-row true true i more e = (refl, refl, e)
+  first-row true false i more e = let z : _≡_ {A = ℕ} 0 1 = cc in absurd (omega arith)
+  first-row false b i more e = let z : _≡_ {A = ℕ} 0 1 = cc in absurd (omega arith)
+
+  from-row : (n i : ℕ) → testFrom R B i n ≡ fine → (x : ℕ) → i ≤ x → x < i + n → Row R B x
+  unfolding testFrom
+  from-row zero i e x l h = absurd (omega arith)
+  from-row (suc n) i e x l h =
+      let (a, b, more) = first-row (wellFormed R B i) (writable R B i) i (testFrom R B (suc i) n) e in
+      elim (ℕ-discrete x i) [
+        | yes q ↦ rw q (row-of i a b)
+        | no q ↦ from-row n (suc i) more x (omega arith) (omega arith)
+      ]
+
+  -- there are rows, and each passes
+  pub tested-rows : tested R B ≡ fine → (0 < rowsIn R) × ((i : ℕ) → i < rowsIn R → Row R B i)
+  unfolding tested
+  tested-rows e = by (eqb (rowsIn R) 0) refl e
+    where
+      by : (t : Bool) → eqb (rowsIn R) 0 ≡ t → cond t (test.faulty 13 0) (testFrom R B 0 (rowsIn R)) ≡ fine
+          → (0 < rowsIn R) × ((i : ℕ) → i < rowsIn R → Row R B i)
+      by true g e = let z : _≡_ {A = ℕ} 0 1 = cc in absurd (omega arith)
+      by false g e = (more (rowsIn R) (eqb-false (rowsIn R) 0 g), λ i h. from-row (rowsIn R) 0 e i (omega arith) (omega arith))
+        where
+          more : (n : ℕ) → (n ≡ 0 → ⊥) → 0 < n
+          more zero h = absurd (h refl)
+          more (suc n) h = omega arith
+
+-- ---- spans
+
+module _ (B : List ℕ) where
+  pub part-short : (begin size : ℕ) → length (part B begin size) ≤ length B
+  unfolding part
+  part-short begin size = simp (length-take, length-drop) (omega arith)
+
+  span-length : (begin size : ℕ) → spanFits B begin size ≡ true → length (part B begin size) ≡ size
+  unfolding spanFits part
+  span-length begin size e = simp (length-take, length-drop) (by (eqb size 0) refl e)
+    where
+      by : (t : Bool) → eqb size 0 ≡ t → cond t (eqb begin 0) (leb (begin + size) (length B)) ≡ true → min size (length B - begin) ≡ size
+      by true g e = omega (arith, eqb-true size 0 g)
+      by false g e = omega (arith, leb-true (begin + size) (length B) e)
+
+  mark-length : (mark begin size : ℕ) → markFits B mark begin size ≡ true → length (part B begin size) ≡ size
+  unfolding markFits part
+  mark-length mark begin size e = by (eqb mark 0) e
+    where
+      by : (t : Bool) → cond t (eqb begin 0 && eqb size 0) (eqb mark 1 && spanFits B begin size) ≡ true → length (part B begin size) ≡ size
+      by true e =
+          let s : size ≡ 0 = eqb-true size 0 (both (eqb begin 0) (eqb size 0) e .1) in
+          simp (length-take, length-drop) (omega arith)
+      by false e = span-length begin size (both (eqb mark 1) (spanFits B begin size) e .1)
+
+module _ (R B : List ℕ) (i : ℕ) (row : Row R B i) where
+  pub key-length : length (keyText R B i) ≡ col R i colKeySize
+  key-length = mark-length B (col R i colKeyMark) (col R i colKeyBegin) (col R i colKeySize) (row .key)
+
+  -- the columns of the body, or of the class
+  body-columns : cond (hasClass (col R i colKind)) (markFits B (col R i colClassMark) (col R i colBodyBegin) (col R i colBodySize))
+      (eqb (col R i colClassMark) 0 && meant (hasBody (col R i colKind)) (col R i colBodySize)
+      && spanFits B (col R i colBodyBegin) (col R i colBodySize)) ≡ true
+  unfolding columnsFit
+  body-columns =
+      let (e₅, count2) = both _ (meant (hasCount2 (col R i colKind)) (col R i colCount2)) (row .columns) in
+      let (e₄, count) = both _ (meant (hasCount (col R i colKind)) (col R i colCount)) e₅ in
+      let (e₃, number) = both _ (meant (hasNumber (col R i colKind)) (col R i colNumber)) e₄ in
+      let (e₂, most) = both _ (leb (col R i colFlag) 1) e₃ in
+      both _ (meant (hasFlag (col R i colKind)) (col R i colFlag)) e₂ .0
+
+  pub body-length : length (bodyOf R B i) ≡ col R i colBodySize
+  body-length = by (hasClass (col R i colKind)) body-columns
+    where
+      by : (c : Bool) → cond c (markFits B (col R i colClassMark) (col R i colBodyBegin) (col R i colBodySize))
+          (eqb (col R i colClassMark) 0 && meant (hasBody (col R i colKind)) (col R i colBodySize)
+          && spanFits B (col R i colBodyBegin) (col R i colBodySize)) ≡ true
+          → length (bodyOf R B i) ≡ col R i colBodySize
+      by true e = mark-length B (col R i colClassMark) (col R i colBodyBegin) (col R i colBodySize) e
+      by false e =
+          span-length B (col R i colBodyBegin) (col R i colBodySize)
+          (both (eqb (col R i colClassMark) 0 && meant (hasBody (col R i colKind)) (col R i colBodySize)) _ e .1)
+
+  -- a class is given by the mark 1
+  pub class-mark : hasClass (col R i colKind) ≡ true → eqb (col R i colClassMark) 0 ≡ false → eqb (col R i colClassMark) 1 ≡ true
+  unfolding markFits
+  class-mark c e = both (eqb (col R i colClassMark) 1) _ (rw (c, e) at body-columns) .0
+
+-- ---- the children of row p
+
+-- child k, number j, which ends at row `stop` or before
+pub record Child (R : List ℕ) (p stop k j : ℕ) : Type 0 where
+  pub behind : p < k
+  pub before : k < col R k colEnd
+  pub inside : col R k colEnd ≤ stop
+  pub row : k < rowsIn R
+  -- it is given what p gives its child number j
+  pub gift : given R k k ≡ gives R p j
+
+-- n of them from row k on, the first number j
+pub data Walk (R : List ℕ) (p stop : ℕ) : ℕ → ℕ → ℕ → Type 0 where
+  done : {k j : ℕ} → Walk R p stop k j 0
+  next : {k j n : ℕ} → Child R p stop k j → Walk R p stop (col R k colEnd) (suc j) n → Walk R p stop k j (suc n)
+
+-- behind n of them
+pub walk-after : (R : List ℕ) (p stop n : ℕ) {c k j : ℕ} → n ≤ c → Walk R p stop k j c → Walk R p stop (after R k n) (j + n) (c - n)
+unfolding after
+walk-after R p stop zero {c} {k} {j} l w =
+    let a : j + 0 ≡ j = omega arith in
+    let b : c - 0 ≡ c = omega arith in
+    rw (a, b) w
+walk-after R p stop (suc n) l done = absurd (omega arith)
+walk-after R p stop (suc n) l (next {j = j} {n = c} x w) =
+    let a : suc j + n ≡ j + suc n = omega arith in
+    let b : c - n ≡ suc c - suc n = omega arith in
+    rw (a, b) at (walk-after R p stop n (omega arith) w)
+
+module _ (R : List ℕ) where
+  one-closes : (stop k n : ℕ) → closes R stop k (suc n) ≡ true
+      → (k < col R k colEnd) × (col R k colEnd ≤ stop) × (closes R stop (col R k colEnd) n ≡ true)
+  unfolding closes
+  one-closes stop k n e =
+      let (d, c) = both (ltb k (col R k colEnd) && leb (col R k colEnd) stop) (closes R stop (col R k colEnd) n) e in
+      let (a, b) = both (ltb k (col R k colEnd)) (leb (col R k colEnd) stop) d in
+      (ltb-true k (col R k colEnd) a, leb-true (col R k colEnd) stop b, c)
+
+  -- so many children have as many rows at least
+  pub walk-long : (stop k n : ℕ) → closes R stop k n ≡ true → k + n ≤ stop
+  unfolding closes
+  walk-long stop k zero e = omega (arith, eqb-true k stop e)
+  walk-long stop k (suc n) e = let (a, b, c) = one-closes stop k n e in omega (arith, walk-long stop (col R k colEnd) n c)
+
+  -- children that end at row i or before don't have it
+  not-among : (before : Given) (p i stop k j n : ℕ) → closes R stop k n ≡ true → stop ≤ i → givenIn before R p i k j n ≡ before
+  unfolding givenIn
+  not-among before p i stop k j zero e l = refl
+  not-among before p i stop k j (suc n) e l =
+      let (a, b, c) = one-closes stop k n e in
+      rw (ne-eqb k i (λ q. omega arith)) (not-among before p i stop (col R k colEnd) (suc j) n c l)
+
+-- the rows behind p and before k end at k or before
+abbrev Ends : List ℕ → ℕ → ℕ → Type 0
+Ends R p k = (q : ℕ) → p < q → q < k → col R q colEnd ≤ k
+
+module _ (R B : List ℕ) (rows : (i : ℕ) → i < rowsIn R → Row R B i) where
+  one-more : (p k : ℕ) → k < col R k colEnd → Ends R p k → Ends R k (col R k colEnd) → Ends R p (col R k colEnd)
+  one-more p k l f g q a b =
+      elim (decLt q k) [
+        | yes h ↦ omega (arith, f q a h)
+        | no h ↦ elim (ℕ-discrete q k) [
+          | yes e ↦ rw e (omega arith)
+          | no e ↦ g q (omega arith) b
+        ]
+      ]
+
+  -- so do those behind p and before its end
+  walk-ends : (p stop : ℕ) → ((k : ℕ) → p < k → k < stop → Ends R k (col R k colEnd))
+      → (n k : ℕ) → closes R stop k n ≡ true → p < k → Ends R p k → Ends R p stop
+  unfolding closes
+  walk-ends p stop deeper zero k e l f = rw (eqb-true k stop e) at f
+  walk-ends p stop deeper (suc n) k e l f =
+      let (a, b, c) = one-closes R stop k n e in
+      walk-ends p stop deeper n (col R k colEnd) c (omega arith) (one-more p k a f (deeper k l (omega arith)))
+
+  row-ends : (d p : ℕ) → rowsIn R ≤ p + d → p < rowsIn R → Ends R p (col R p colEnd)
+  row-ends zero p l h = absurd (omega arith)
+  row-ends (suc d) p l h =
+      walk-ends p (col R p colEnd) (λ k x y. row-ends d k (omega arith) (omega (arith, rows p h .end))) (children R p) (suc p)
+      (rows p h .closed) (omega arith) (λ q x y. absurd (omega arith))
+
+  -- what row p gives to row k, the rows between leave to it
+  left : (p k m : ℕ) → k < rowsIn R → Ends R p k → p < m → m ≤ k → given R m k ≡ given R (suc p) k
+  unfolding given
+  left p k zero h f l g = absurd (omega arith)
+  left p k (suc m) h f l g =
+      elim (ℕ-discrete m p) [
+        | yes e ↦ rw e
+        | no e ↦
+            not-among R (given R m k) m k (col R m colEnd) (suc m) 0 (children R m) (rows m (omega arith) .closed) (f m (omega arith) (omega arith))
+            ∙ left p k m h f (omega arith) (omega arith)
+      ]
+
+  walk-from : (p stop k j n : ℕ) → stop ≤ rowsIn R → closes R stop k n ≡ true → p < k → Ends R p k
+      → ((i : ℕ) → k ≤ i → given R (suc p) i ≡ givenIn (given R p i) R p i k j n) → Walk R p stop k j n
+  unfolding givenIn
+  walk-from p stop k j zero w e l f g = done
+  walk-from p stop k j (suc n) w e l f g =
+      let (a, b, c) = one-closes R stop k n e in
+      let h : k < rowsIn R = omega arith in
+      let own : givenIn (given R p k) R p k k j (suc n) ≡ gives R p j = rw (eq-eqb k k refl) in
+      next
+      (record { behind = l; before = a; inside = b; row = h; gift = left p k k h f l (omega arith) ∙ g k (omega arith) ∙ own })
+      (walk-from p stop (col R k colEnd) (suc j) n w c (omega arith) (one-more p k a f (row-ends (rowsIn R) k (omega arith) h))
+      (λ i x. rw (ne-eqb k i (λ q. omega arith)) at (g i (omega arith))))
+
+  pub walk-start : (p : ℕ) → p < rowsIn R → Walk R p (col R p colEnd) (suc p) 0 (children R p)
+  unfolding given
+  walk-start p h =
+      walk-from p (col R p colEnd) (suc p) 0 (children R p) (rows p h .end) (rows p h .closed) (omega arith) (λ q x y. absurd (omega arith)) (λ i x. refl)
+
+-- ---- what a row stands for
+
+-- a row that is no reference stands for itself, a reference for an earlier row that ends at or before it
+pub data Home (R : List ℕ) (i : ℕ) : ℕ → Type 0 where
+  itself : Home R i i
+  target : {j : ℕ} → j < i → col R j colEnd ≤ i → Home R i j
+
+module _ (R B : List ℕ) (rows : (i : ℕ) → i < rowsIn R → Row R B i) where
+  pub home-of : (i : ℕ) → i < rowsIn R → Home R i (home R i)
+  unfolding home valueFits
+  home-of i h = by (eqb (col R i colKind) kindReference) refl
+    where
+      by : (t : Bool) → eqb (col R i colKind) kindReference ≡ t → Home R i (cond t (col R i colNumber) i)
+      by true e =
+          let k : col R i colKind ≡ kindReference = eqb-true (col R i colKind) kindReference e in
+          let t = both (ltb (col R i colNumber) i && leb (col R (col R i colNumber) colEnd) i) _ (rw k at (rows i h .value)) in
+          let u = both (ltb (col R i colNumber) i) (leb (col R (col R i colNumber) colEnd) i) (t .0) in
+          target (ltb-true (col R i colNumber) i (u .0)) (leb-true (col R (col R i colNumber) colEnd) i (u .1))
+      by false e = itself
+
+  pub home-row : (i : ℕ) → i < rowsIn R → home R i < rowsIn R
+  home-row i h = by (home-of i h)
+    where
+      by : {j : ℕ} → Home R i j → j < rowsIn R
+      by itself = h
+      by (target l e) = omega arith
+
+-- ---- by the number of a kind
+
+-- c is m, or more
+pub kind-is : {X : Type 0} (c m : ℕ) → m ≤ c → (c ≡ m → X) → (suc m ≤ c → X) → X
+kind-is c m l f g =
+    elim (ℕ-discrete c m) [
+      | yes e ↦ f e
+      | no e ↦ g (omega arith)
+    ]
