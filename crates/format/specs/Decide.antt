@@ -1,5 +1,5 @@
 -- Every decision of a reading: what one byte, with those before it, makes of the loans. Reading and Step only say which comes next.
--- A decision is a column of refusals in the order in which they come, 12 first, and then what it gives. It writes at most one loan.
+-- A decision is a column of refusals in the order in which they come, and then what it gives. It writes at most one loan. Comments name its refusals, 10/n for loan n.
 use mathlib.Core.Bool.{Bool, true, false, cond, not, _&&_}
 use mathlib.Core.List.{List, [], _∷_}
 use Prim.Native.Nat.{ℕ, zero, suc, _+_, _*_, _-_, _/_, _%_}
@@ -81,7 +81,7 @@ unfoldable pub newRow : ℕ → Key → ℕ → List ℕ
 newRow b k row =
     cond (ltb b 3) (b + 1) b ∷ k .mark ∷ k .begin ∷ k .size ∷ 0 ∷ 0 ∷ 0 ∷ 0 ∷ cond (eqb b 3) 1 0 ∷ 0 ∷ 0 ∷ cond (ltb b 4) (row + 1) 0 ∷ []
 
--- a marker where so many values may still open: its row's number
+-- a marker where so many values may still open: its row's number (12; 3, 9, 10/1)
 unfoldable pub marker : Key → ℕ → ℕ → List ℕ → Cursor → Out (List ℕ) ℕ
 marker k left b R c =
     cond (ltb (length R / rowWidth) (c .rows)) lost
@@ -92,7 +92,7 @@ marker k left b R c =
 
 -- ---- a row goes on
 
--- a row is changed, if it is used
+-- a row is changed, if it is used (else 12)
 abbrev pub inRow : ℕ → (List ℕ → List ℕ) → List ℕ → Cursor → Out (List ℕ) Unit
 inRow row f R c = cond (rowUsed R c row) (give tt (f R) c) lost
 
@@ -107,7 +107,7 @@ numbered row n R c = inRow row (λ R. put (put R row colNumber n) row colEnd (c 
 unfoldable pub integerEnd : ℕ → ℕ → List ℕ → Cursor → Out (List ℕ) Unit
 integerEnd row w = numbered row (columnOf (integerOf w))
 
--- a date's eight bytes
+-- a date's eight bytes (12; 7)
 abbrev pub dated : ℕ → ℕ → Date → List ℕ → Cursor → Out (List ℕ) Unit
 dated row bits Refused R c = refuse 7 bits c
 dated row bits (Millis n) R c = numbered row n R c
@@ -154,28 +154,28 @@ grown row w s n R c = inRow row (λ R. put R row colCount ((s .size - n) / width
 
 -- ---- texts and bytes
 
--- text i of the strings
+-- text i of the strings (12; 4; 12 of its span)
 unfoldable pub oldText : ℕ → List ℕ → Cursor → Out Unit Span
 oldText i T c =
     cond (ltb (length T / spanWidth) (c .strings)) lost
     (cond (leb (c .strings) i) (refuse 4 i c)
     (cond (spanUsed c (spanAt T i)) (give (spanAt T i) tt c) lost))
 
--- room for n bytes is reserved before they come
+-- room for n bytes is reserved before they come (12; 10/2)
 unfoldable pub reserved : ℕ → List ℕ → Cursor → Out Unit Span
 reserved n B c =
     cond (ltb (length B) (c .store)) lost
     (cond (ltb (length B) (c .store + n)) (refuse 10 2 c)
     (give (span (c .store) n) tt (storeTo c (c .store + n))))
 
--- a byte of a span, n more to come after it
+-- a byte of a span, n more to come after it (12)
 unfoldable pub stored : Span → ℕ → ℕ → List ℕ → Cursor → Out (List ℕ) Unit
 stored s n b B c =
     cond (ltb (length B) (c .store)) lost
     (cond (leb (s .size) n) lost
     (cond (spanUsed c s) (give tt (set B (s .begin + (s .size - (n + 1))) b) c) lost))
 
--- a text's last byte: the verdict on it
+-- a text's last byte: the verdict on it (8)
 unfoldable pub judged : Bool → Cursor → Out Unit Unit
 judged valid c = cond valid (give tt tt c) (refuse 8 0 c)
 
@@ -184,7 +184,7 @@ abbrev pub pushed : ℕ → ℕ → Span → List ℕ → Cursor → (Cursor →
 pushed n used s T c to =
     cond (leb (length T / spanWidth) used) (refuse 10 n c) (give s (sets T (used * spanWidth) (s .begin ∷ s .size ∷ [])) (to c (used + 1)))
 
--- a text's last byte, where it enters the strings
+-- a text's last byte, where it enters the strings (12; 8, 10/3)
 unfoldable pub textEnd : Span → Bool → List ℕ → Cursor → Out (List ℕ) Span
 textEnd s valid T c =
     cond (ltb (length T / spanWidth) (c .strings)) lost
@@ -192,7 +192,7 @@ textEnd s valid T c =
 
 -- ---- objects
 
--- row enters the objects
+-- row enters the objects (12; 10/4)
 unfoldable pub entered : ℕ → List ℕ → Cursor → Out (List ℕ) Unit
 entered row O c =
     cond (leb (c .rows) row) lost
@@ -200,7 +200,7 @@ entered row O c =
     (cond (leb (length O) (c .objects)) (refuse 10 4 c)
     (give tt (set O (c .objects) row) (objectsTo c (c .objects + 1)))))
 
--- row becomes a reference to object i
+-- row becomes a reference to object i (12; 4; 12 of its row; 5)
 unfoldable pub referred : ℕ → ℕ → List ℕ → List ℕ → Cursor → Out (List ℕ) Unit
 referred row i O R c =
     cond (ltb (length O) (c .objects)) lost
@@ -226,6 +226,7 @@ traitAt U i =
 unfoldable pub traitHolds : Cursor → Trait → Bool
 traitHolds c t = spanUsed c (classOf t) && leb (t .dynamic) 1 && leb (t .first + t .count) (c .names)
 
+-- trait i (12; 4; 12 of what it says)
 unfoldable pub oldTrait : ℕ → List ℕ → Cursor → Out Unit Trait
 oldTrait i U c =
     cond (ltb (length U / traitWidth) (c .traits)) lost
@@ -236,11 +237,11 @@ oldTrait i U c =
 abbrev pub traitOf : Span → ℕ → ℕ → Cursor → Trait
 traitOf s n dynamic c = record { begin = s .begin; size = s .size; dynamic = dynamic; first = cond (eqb n 0) 0 (c .names); count = n }
 
--- a field name's span, as it is read
+-- a field name's span, as it is read (12; 10/6)
 unfoldable pub named : Span → List ℕ → Cursor → Out (List ℕ) Span
 named s N c = cond (ltb (length N / spanWidth) (c .names)) lost (pushed 6 (c .names) s N c namesTo)
 
--- a trait is entered after its last name
+-- a trait is entered after its last name (12; 10/5)
 unfoldable pub traitEnd : Trait → List ℕ → Cursor → Out (List ℕ) Unit
 traitEnd t U c =
     cond (ltb (length U / traitWidth) (c .traits)) lost
@@ -248,14 +249,14 @@ traitEnd t U c =
     (cond (leb (length U / traitWidth) (c .traits)) (refuse 10 5 c)
     (give tt (sets U (c .traits * traitWidth) (t .begin ∷ t .size ∷ t .dynamic ∷ t .first ∷ t .count ∷ [])) (traitsTo c (c .traits + 1)))))
 
--- the key of a sealed member: a name of its trait
+-- the key of a sealed member: a name of its trait (12)
 unfoldable pub sealedKey : ℕ → List ℕ → Cursor → Out Unit Key
 sealedKey i N c =
     cond (ltb (length N / spanWidth) (c .names)) lost
     (cond (leb (c .names) i) lost
     (cond (spanUsed c (spanAt N i)) (give (keyOf (spanAt N i)) tt c) lost))
 
--- whether a vector's class is `*`
+-- whether a vector's class is `*` (12)
 unfoldable pub starred : Span → List ℕ → Cursor → Out Unit Bool
 starred s B c =
     cond (eqb (s .size) 1)

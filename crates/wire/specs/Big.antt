@@ -24,7 +24,7 @@ unfoldable pub bytesOf : ℕ → ℕ → List ℕ
 bytesOf zero n = []
 bytesOf (suc k) n = (n / 2 ^ (8 * k) % 2 ^ 8) ∷ bytesOf k n
 
--- one byte b of a number of eight: `left` more come after it, and those before it gave n; astray is an n that they can't give
+-- one byte b of a number of eight: `left` more come after it, and those before it gave n; astray are numbers that no such number has
 unfoldable pub digitOf : ℕ → ℕ → ℕ → Part
 digitOf left n b =
     cond (ltb 7 left) Astray

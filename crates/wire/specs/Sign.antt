@@ -16,7 +16,7 @@ abbrev pub bitsAt : ℕ → ℤ → ℕ
 bitsAt h (pos n) = n
 bitsAt h (negsuc n) = 2 ^ suc h - suc n
 
--- an integer on the wire: 29 bits, of a number that may have more
+-- an integer on the wire: the low 29 bits of a number
 unfoldable pub integerOf : ℕ → ℤ
 integerOf n = signedAt 28 (n % 2 ^ 29)
 

@@ -9,7 +9,7 @@ use Rattle.wire.specs.declared.Part.the-variants.{More, Whole, Astray}
 use Rattle.wire.specs.declared.Read.{Read}
 use Rattle.wire.specs.declared.Read.the-variants.{Value, Short}
 
--- one byte b of a U29: `left` more may come after it, and those before it gave n; astray is an n that they can't give
+-- one byte b of a U29: `left` more may come after it, and those before it gave n; astray are numbers that no U29 has
 unfoldable pub partOf : ℕ → ℕ → ℕ → Part
 partOf left n b =
     cond (ltb 3 left) Astray

@@ -1,4 +1,4 @@
--- What a size word says.
+-- What a size word and an object word say.
 use mathlib.Core.Bool.{cond}
 use Prim.Native.Nat.{ℕ, _/_, _%_, _^_}
 use lib.Dec.{eqb}
@@ -15,7 +15,7 @@ bit k w = w / 2 ^ k % 2
 unfoldable pub sizeOf : ℕ → Size
 sizeOf w = cond (eqb (bit 0 w) 0) (Old (w / 2)) (New (w / 2))
 
--- an object's word: its low bit, then bit 0 clear is a trait reference; bit 1 externalizable; bit 2 dynamic; the rest counts sealed names
+-- an object's word: low bit 0 is a reference; counted after it, bit 0 clear is a trait reference, bit 1 externalizable, bit 2 dynamic, the rest counts sealed names
 unfoldable pub shapeOf : ℕ → Shape
 shapeOf w =
     cond (eqb (bit 0 w) 0) (Object (w / 2))
