@@ -11,6 +11,7 @@ pub mod States
 pub mod Shows
 pub mod Pieces
 pub mod Wiped
+pub mod Depth
 -- Reading means the standard.
 pub mod Alike
 pub mod Rep

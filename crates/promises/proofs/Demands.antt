@@ -6,10 +6,11 @@ use mathlib.Core.List.{List, [], _∷_, _++_}
 use Prim.Native.Nat.{ℕ, suc, _≤_, _<_}
 use lib.ListN.{length, take, drop}
 use Rattle.rows.specs.declared.Cursor.{Cursor}
-use Rattle.rows.specs.Memory.{Memory, zeroed, faultOf, messageLimit, openLimit}
+use Rattle.rows.specs.Memory.{Memory, fresh, zeroed, faultOf, messageLimit, openLimit, noKey}
 use Rattle.wire.proofs.Octets.{Bytes}
 use Rattle.format.specs.declared.Answer.{Answer}
-use Rattle.format.specs.Reading.{ok, Ended, finished, refused, reading}
+use Rattle.format.specs.Reading as reader
+use Rattle.format.specs.Reading.{ok, Ended, finished, refused, ended, unlessFault, reading}
 use Rattle.format.specs.Step.{State, over, end, run, begin}
 use Rattle.format.specs.Numbers.{Numbers, stateOf}
 use Rattle.format.specs.Answers.{Fed, fed, answerOf, beginCall, feedCall, endCall, readCall}
@@ -29,6 +30,8 @@ use Rattle.format.proofs.Meaning as meaning
 use Rattle.format.proofs.Meaning.{usedRows, Accord, Kept-to}
 use Rattle.format.proofs.Finished as tables
 use Rattle.format.proofs.RowTests.{Passes}
+use Rattle.format.proofs.Depth as deeper
+use Rattle.format.proofs.Depth.{Shallow}
 use Rattle.format.proofs.Fuel as fuel
 use Rattle.format.proofs.Writes as writes
 use Rattle.format.proofs.Writes.{Outcome, Accepted}
@@ -74,6 +77,11 @@ never-12 = meaning.never-lost
 -- more fuel changes nothing of the standard
 pub fuel-is-enough : (f d : ℕ) (bytes : List ℕ) → length bytes < f → length bytes < d → value f d noTables 0 bytes ≡ standard bytes
 fuel-is-enough = fuel.standard-fuel
+
+-- more depth changes nothing but 9
+pub depth-is-enough : (left : ℕ) → openLimit ≤ left → (m : Memory) (bytes : List ℕ) → Shallow (reading m bytes)
+    → unlessFault (faultOf m) m (ended (reader.value left noKey (zeroed m) fresh bytes)) ≡ reading m bytes
+depth-is-enough = deeper.deeper-reading
 
 -- "Writing means what the specification says": accepted exactly where document 01 says, as `encode` of the unfolded tree, and only the bytes reported change
 pub accepted-writing : (R B out P : List ℕ) (n : ℕ) → writing R B out ≡ written n P → Accepted R B out n P
