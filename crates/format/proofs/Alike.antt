@@ -10,7 +10,7 @@ use lib.Dec.{leb, lit≤}
 use lib.ListN.{length, getD, drop, drop-of-length-le}
 use lib.Seq.{drop-cons}
 use Rattle.rows.specs.declared.Cursor.{Cursor}
-use Rattle.rows.specs.Memory.{Memory, cursor, messageLimit}
+use Rattle.rows.specs.Memory.{Memory, messageLimit}
 use Rattle.wire.specs.Big.{numberOf}
 use Rattle.wire.proofs.Octets.{Bytes}
 use Rattle.wire.proofs.Digits.{one-more}
@@ -20,6 +20,8 @@ use Rattle.format.specs.Reading.{ResultOf, ok, bad, bind, ret, Result, R
 use Rattle.format.specs.Reading as our
 use Rattle.format.specs.Standard as std
 use Rattle.format.specs.Standard.{Tables, Std}
+use Rattle.format.proofs.Tests.{clash}
+use Rattle.format.proofs.Memories.{atTo}
 
 -- ---- the bytes left
 
@@ -37,7 +39,7 @@ left-byte {whole} {at} {b} {bs} h l = by (decLt at (length whole))
         let f : b ≡ getD whole at 0 = cc in
         let g : bs ≡ drop (suc at) whole = cc in
         (record { rest = g; within = k }, rw f (h at))
-    by (no k) = let e : (b ∷ bs) ≡ [] = l .rest ∙ drop-of-length-le whole {i = at} (omega arith) in let z : _≡_ {A = ℕ} 0 1 = cc in absurd (omega arith)
+    by (no k) = let e : (b ∷ bs) ≡ [] = l .rest ∙ drop-of-length-le whole {i = at} (omega arith) in clash cc
 
 -- ---- two results alike
 
@@ -78,10 +80,6 @@ flat (ok a m p bs) f g = refl
 flat (bad n t p m) f g = refl
 
 -- ---- bytes and numbers
-
--- the cursor after so many bytes
-abbrev pub atTo : Cursor → ℕ → Cursor
-atTo c n = cursor n (c .rows) (c .store) (c .strings) (c .objects) (c .traits) (c .names)
 
 module _ (whole : List ℕ) (octets : Bytes whole) {C D : Type 0} {Q : C → Memory → Cursor → D → Tables → Type 0} (m : Memory) (s : Tables) where
   pub byte-then : (c : Cursor) (bs : List ℕ) (f : ℕ → Reader C) (g : ℕ → Std D) → Left whole (c .at) bs

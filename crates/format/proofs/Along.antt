@@ -7,6 +7,7 @@ use Prim.Native.Nat.{ℕ, zero, suc, _+_, _-_, _≤_, _<_}
 use native.Mathlib.Omega.{arith}
 use native.Mathlib.Nat.{add-zero, add-assoc, le-refl, le-of-lt}
 use native.Mathlib.Numerals.{add-one}
+use borrow.Author.Needs.{zero≤}
 use lib.Dec.{T, leb}
 use borrow.Author.Tests.{leb-false}
 use lib.ListN.{length, length-replicate}
@@ -37,7 +38,7 @@ use Rattle.format.specs.Reading.{finished, refused, taken}
 use Rattle.format.specs.declared.Lent.{Lent}
 use Rattle.format.specs.Numbers.{lentOf}
 use Rattle.format.specs.Answers.{cost, costFrom}
-use Rattle.format.proofs.Feeding.{on-bool}
+use Rattle.format.proofs.Tests.{on-bool}
 use Rattle.format.proofs.Used.{RowIn, SpanIn, KeyIn, Roomy, UseIn, TextIn, WordIn, FlagIn, ModeIn, Grows, grows-same, grows-on, row-up, span-up}
 use Rattle.format.proofs.Used.{use-up, text-up, word-up, number-up, flag-up}
 use Rattle.format.proofs.Kept.{moves-same, Keeps, refuses, gives, RowOf, Any, Lends, Holds, keeps-looking, keeps-on-rows, keeps-on-store}
@@ -66,13 +67,10 @@ TaskIn (keysOf row n done) c = Unit
 TaskIn (valuesOf row n done) c = Unit
 TaskIn strange c = Unit
 
-zero-le : (n : ℕ) → 0 ≤ n
-zero-le n = omega arith
+paired : {A B : Type 0} → A → B → A × B
+paired a b = (a, b)
 
-both : {A B : Type 0} → A → B → A × B
-both a b = (a, b)
-
-ruleset used = (row-up, span-up, use-up, text-up, word-up, number-up, both, zero-le, le-refl, le-of-lt, tt)
+ruleset used = (row-up, span-up, use-up, text-up, word-up, number-up, paired, zero≤, le-refl, le-of-lt, tt)
 
 -- what a refusal leaves: 1 the loans as found, any other one all of them zero
 pub data Left : ℕ → Memory → Type 0 where
@@ -205,14 +203,14 @@ module _ {lent : Lent} {at : ℕ} (ts : List Frame) (fits : length ts < openLimi
   good-string : (u : Use) (z : Size) (c : Cursor) (m : Memory) → Holds lent at c m → UseIn u c → Good lent at (stringSized ts u z c m)
   unfolding stringSized
   good-string u (Old i) c m h has = search (good, good-given SpanIn, keeps-old-text, good-had)
-  good-string u (New zero) c m h has = good-had u noSpan c m h has (zero-le _)
+  good-string u (New zero) c m h has = good-had u noSpan c m h has zero≤
   good-string u (New (suc n)) c m h has = good-reserved (suc n) _ c m h (λ s d m h v sp room. search (good, keeps-use) depth 8)
 
   good-room : (row n : ℕ) (f : Span → Cursor → Memory → State) (c : Cursor) (m : Memory) → Holds lent at c m
       → ((s : Span) (d : Cursor) (m : Memory) → Holds lent at d m → Grows c d → SpanIn s d → n ≤ s .size → Good lent at (f s d m))
       → Good lent at (roomy row n c m f)
   unfolding roomy
-  good-room row zero f c m h g = g noSpan c m h (grows-same c) (zero-le _) (zero-le _)
+  good-room row zero f c m h g = g noSpan c m h (grows-same c) zero≤ zero≤
   good-room row (suc n) f c m h g = good-reserved (suc n) _ c m h (λ s d m h v sp room. search (good, grows-on, keeps-bodied) depth 8)
 
   good-texting : (row : ℕ) (s : Span) (n : ℕ) (c : Cursor) (m : Memory) → Holds lent at c m → RowIn row c → SpanIn s c → n ≤ s .size

@@ -1,11 +1,11 @@
 -- A reader of the standard reads these bytes as this, whatever the tables, the place and what follows; the rule for two readers, and the leaves.
 use mathlib.Core.Path.{_≡_, refl, ap, _∙_}
-use mathlib.Core.Bool.{Bool, true, false, not}
+use mathlib.Core.Bool.{Bool, true, false}
 use mathlib.Core.List.{List, [], _∷_, _++_, append-assoc, append-nil}
 use Prim.Native.Nat.{ℕ, suc, _+_, _*_, _^_, _/_, _<_}
 use native.Mathlib.Omega.{arith}
 use native.Mathlib.Nat.{mod-eq-of-lt}
-use lib.Dec.{ltb, eqb, lit<}
+use lib.Dec.{ltb, lit<}
 use lib.IntN.{pos}
 use lib.Ieee.{binary64, ofInt, toBits}
 use lib.ListN.{length, length-append}
@@ -23,6 +23,7 @@ use Rattle.format.specs.Standard.{Plain, undefined, null, boolean, integ
 use Rattle.format.specs.Standard.{intVector, uintVector, doubleVector, Tree, plain, Tables, Std, change, byte, bytes, word, chars, entered}
 use Rattle.format.specs.Standard.{textOf, text}
 use Rattle.format.specs.Standard.{opened, shut, vectorOf, newOf, sizedOf, marked, value, sizeBytes, textBytes, flagByte, encodePlain}
+use Rattle.format.proofs.Tests.{flag-back}
 use Rattle.format.proofs.Words.{word-round, size-new}
 use Rattle.format.proofs.Writable.{IsText, IsRaw, WritablePlain}
 
@@ -102,11 +103,6 @@ pub reads-marked : (f d : ℕ) {bs : List ℕ} {t : Tree} (b : ℕ) → ltb 0x11
 unfolding value
 reads-marked f d b e h = reads-bind _ (reads-byte b) (rw e h)
 
--- a flag byte
-pub flagged : (flag : Bool) → not (eqb (flagByte flag) 0) ≡ flag
-flagged true = refl
-flagged false = refl
-
 module _ (v : Std Tree) (f b : ℕ) where
   -- a size word, and what follows it
   pub reads-sized : {bs : List ℕ} {t : Tree} (body : Body) (n : ℕ) → n < 2 ^ 28 → Reads (newOf v f b body n) bs t
@@ -118,7 +114,7 @@ module _ (v : Std Tree) (f b : ℕ) where
   reads-raw : (w : Width) (fixed : Bool) (t : List ℕ) (h : IsRaw (widthOf w) t)
       → Reads (newOf v f b (k.raw w) (h .entries)) (flagByte fixed ∷ t) (plain (vectorOf b fixed t))
   unfolding newOf
-  reads-raw w fixed t h = reads-bind _ (reads-byte (flagByte fixed)) (rw (← h .size, flagged fixed) (reads-last _ (reads-bytes t) reads-ret))
+  reads-raw w fixed t h = reads-bind _ (reads-byte (flagByte fixed)) (rw (← h .size, flag-back fixed) (reads-last _ (reads-bytes t) reads-ret))
 
 reads-eight : (n : ℕ) → Reads (bytes 8) (bytesOf 8 n) (bytesOf 8 n)
 reads-eight n = rw (bytes-length 8 n) at (reads-bytes (bytesOf 8 n))

@@ -10,42 +10,23 @@ use lib.ListN.{length, getD, set, length-set, length-append, List·getD-append}
 use lib.Seq.{getD-set-same, getD-set-other, sets, length-sets, getD-append-seam}
 use Rattle.rows.specs.declared.Cursor.{Cursor}
 use Rattle.rows.specs.declared.Trait.{Trait}
-use Rattle.rows.specs.Memory.{Memory, memory, messageLimit, cell, put, colEnd}
+use Rattle.rows.specs.Memory.{Memory, messageLimit, cell, put, colEnd}
 use Rattle.format.specs.Decide.{rowsTo, storeTo, stringsTo, objectsTo, traitsTo, namesTo, traitAt}
 use Rattle.format.specs.Standard.{Tree, Traits, Tables}
-use Rattle.format.proofs.Alike.{atTo}
-use Rattle.format.proofs.Rep.{land, Text, Own, own-ext, Ext}
-use Rattle.format.proofs.Tables.{Kept, kept-set, kept-sets, sets-at, part-kept, TraitRep, noTraits, Entry}
-use Rattle.format.proofs.Tables.{landOf, Sim, sim-grow}
-
--- ---- memories with one loan changed
-
-abbrev pub withRows : Memory → List ℕ → Memory
-withRows m R = memory R (m .store) (m .strings) (m .objects) (m .traits) (m .names)
-
-abbrev pub withStore : Memory → List ℕ → Memory
-withStore m B = memory (m .rows) B (m .strings) (m .objects) (m .traits) (m .names)
-
-abbrev pub withStrings : Memory → List ℕ → Memory
-withStrings m T = memory (m .rows) (m .store) T (m .objects) (m .traits) (m .names)
-
-abbrev pub withObjects : Memory → List ℕ → Memory
-withObjects m O = memory (m .rows) (m .store) (m .strings) O (m .traits) (m .names)
-
-abbrev pub withTraits : Memory → List ℕ → Memory
-withTraits m U = memory (m .rows) (m .store) (m .strings) (m .objects) U (m .names)
-
-abbrev pub withNames : Memory → List ℕ → Memory
-withNames m N = memory (m .rows) (m .store) (m .strings) (m .objects) (m .traits) N
+use Rattle.format.proofs.Lists.{Kept, kept-set, kept-sets, sets-at, last-or}
+use Rattle.format.proofs.Memories.{atTo, withRows, withStore, withStrings, withObjects, withTraits, withNames, numbers}
+use Rattle.format.proofs.Ground.{land, Ext, ext-kept, ext-put, ext-same, landTo}
+use Rattle.format.proofs.Rep.{Text, Own, own-ext}
+use Rattle.format.proofs.Tables.{TraitRep, noTraits, Entry, Sim, sim-grow}
 
 -- ---- rows, store and names
 
 module _ {u : ℕ} {m : Memory} {c : Cursor} {s : Tables} (x : Sim u m c s) where
-  ext-store : (B : List ℕ) (v : ℕ) → u ≤ v → u ≤ length B → Kept u (m .store) B → Ext (landOf u m c) (land (m .rows) (c .rows) B v)
+  ext-store : (B : List ℕ) (v : ℕ) → u ≤ v → u ≤ length B → Kept u (m .store) B → Ext (landTo u m c) (land (m .rows) (c .rows) B v)
   ext-store B v h f k =
       let a = x .settled in
       let b = x .storeIn in
-      record { up = omega arith; cols = λ r j d l. refl; fill = h; texts = λ b z l. part-kept u (m .store) B b z k (omega arith) f l }
+      ext-kept (omega arith) (λ i l. refl) h k (omega arith) f
 
   pub sim-at : (n : ℕ) → n ≤ messageLimit → Sim u m (atTo c n) s
   sim-at n h =
@@ -95,40 +76,24 @@ module _ {u : ℕ} {m : Memory} {c : Cursor} {s : Tables} (x : Sim u m c s) wher
 
   -- a column of an open row
   module _ (r j v : ℕ) (o : cell (m .rows) r colEnd ≡ 0) (w : j < 12) where
-    pub ext-put : Ext (landOf u m c) (land (put (m .rows) r j v) (c .rows) (m .store) u)
-    ext-put =
-        record {
-          up = omega arith;
-          cols = λ q i d l.
-              (let f : q ≢ r = λ e. (let z : q < cell (m .rows) r colEnd = rw (← e) (d .0) in absurd (omega arith)) in
-              let g : q * 12 + i ≢ r * 12 + j = omega arith in
-              simp getD-set-other);
-          fill = omega arith;
-          texts = λ b z l. refl;
-        }
-
     pub sim-put : j < 11 → Sim u (withRows m (put (m .rows) r j v)) c s
     sim-put h =
         sim-grow x (put (m .rows) r j v) (m .store) (m .names) (c .at) (c .rows) (c .store) (c .names) u (x .limit) (rw length-set (x .rowsIn))
         (x .settled) (x .storeIn) (x .namesIn)
-        (omega arith) (λ i l. refl) ext-put (λ q l e. let f : q * 12 + 11 ≢ r * 12 + j = omega arith in rw getD-set-other e)
+        (omega arith) (λ i l. refl) (ext-put (landTo u m c) r j v o w) (λ q l e. let f : q * 12 + 11 ≢ r * 12 + j = omega arith in rw getD-set-other e)
 
   -- a row more
   module _ (cs : List ℕ) (long : length cs ≡ 12) (fits : c .rows * 12 + 12 ≤ length (m .rows)) where
     pub sim-row : Sim u (withRows m (sets (m .rows) (c .rows * 12) cs)) (rowsTo c (c .rows + 1)) s
     sim-row =
         let e = length-sets (m .rows) (c .rows * 12) cs in
+        let same : Kept (c .rows * 12) (m .rows) (sets (m .rows) (c .rows * 12) cs) = kept-sets (c .rows * 12) (c .rows * 12) cs (m .rows) (omega arith) in
+        let p : u ≤ length (m .store) = (let a = x .settled in let b = x .storeIn in omega arith) in
         sim-grow x (sets (m .rows) (c .rows * 12) cs) (m .store) (m .names) (c .at) (c .rows + 1) (c .store) (c .names) u (x .limit) (omega arith)
         (x .settled) (x .storeIn) (x .namesIn)
         (omega arith) (λ i l. refl)
-        (record {
-          up = omega arith;
-          cols = λ q i d l. (let f = d .0 in let g = d .1 in
-              kept-sets (c .rows * 12) (c .rows * 12) cs (m .rows) (omega arith) (q * 12 + i) (omega arith));
-          fill = omega arith;
-          texts = λ b z l. refl;
-        })
-        (λ q l e. kept-sets (c .rows * 12) (c .rows * 12) cs (m .rows) (omega arith) (q * 12 + 11) (omega arith) ∙ e)
+        (ext-kept (omega arith) same (omega arith) (λ i l. refl) p p)
+        (λ q l e. same (q * 12 + 11) (omega arith) ∙ e)
 
   -- a name more
   pub sim-name : (b z : ℕ) → c .names * 2 + 2 ≤ length (m .names)
@@ -138,7 +103,7 @@ module _ {u : ℕ} {m : Memory} {c : Cursor} {s : Tables} (x : Sim u m c s) wher
       sim-grow x (m .rows) (m .store) (sets (m .names) (c .names * 2) (b ∷ z ∷ [])) (c .at) (c .rows) (c .store) (c .names + 1) u (x .limit)
       (x .rowsIn) (x .settled) (x .storeIn) (omega arith)
       (omega arith) (kept-sets (c .names * 2) (c .names * 2) (b ∷ z ∷ []) (m .names) (omega arith))
-      (record { up = omega arith; cols = λ r j d l. refl; fill = omega arith; texts = λ b z l. refl }) (λ r l e. e)
+      (ext-same (landTo u m c)) (λ r l e. e)
 
 -- ---- the tables
 
@@ -157,13 +122,8 @@ setObject i t s = record { texts = s .texts; objects = set (s .objects) i (some 
 -- place i of a table with one entry more is an old one, or the new one
 at-end : {A : Type 0} (d y : A) (xs : List A) (n i : ℕ) (P : ℕ → A → Type 0) → n ≡ length xs → (i < n → P i (getD xs i d)) → P n y → i < n + 1
     → P i (getD (xs ++ y ∷ []) i d)
-at-end d y xs n i P e old new h = elim (decLt i n) [
-  | yes l ↦ let k : i < length xs = omega arith in rw List·getD-append (old l)
-  | no l ↦
-      (let q : i ≡ n = omega arith in
-      let w : getD (xs ++ y ∷ []) i d ≡ y = rw (q, e, getD-append-seam) in
-      rw w (rw q new))
-]
+at-end d y xs n i P e old new h = last-or n i (λ i. P i (getD (xs ++ y ∷ []) i d)) (λ l. let k : i < length xs = omega arith in rw List·getD-append (old l))
+    (let w : getD (xs ++ y ∷ []) n d ≡ y = rw (e, getD-append-seam) in rw w new) h
 
 module _ {u : ℕ} {m : Memory} {c : Cursor} {s : Tables} (x : Sim u m c s) where
   pub sim-text : (b z : ℕ) (xs : List ℕ) → c .strings * 2 + 2 ≤ length (m .strings) → Text (m .store) u b z xs
@@ -203,7 +163,7 @@ module _ {u : ℕ} {m : Memory} {c : Cursor} {s : Tables} (x : Sim u m c s) wher
           rw (rw e at p, q) t
 
   pub sim-trait : (t : Trait) (k : Traits) → c .traits * 5 + 5 ≤ length (m .traits) → TraitRep (m .store) u (m .names) (c .names) t k
-      → Sim u (withTraits m (sets (m .traits) (c .traits * 5) (t .begin ∷ t .size ∷ t .dynamic ∷ t .first ∷ t .count ∷ [])))
+      → Sim u (withTraits m (sets (m .traits) (c .traits * 5) (numbers t)))
       (traitsTo c (c .traits + 1)) (addTraits k s)
   sim-trait t k h r =
       let y = x .kinds in
@@ -216,7 +176,7 @@ module _ {u : ℕ} {m : Memory} {c : Cursor} {s : Tables} (x : Sim u m c s) wher
         strings = x .strings;
         objects = x .objects;
         kinds = record {
-          fits = (let e = length-sets (m .traits) (c .traits * 5) (t .begin ∷ t .size ∷ t .dynamic ∷ t .first ∷ t .count ∷ []) in omega arith);
+          fits = (let e = length-sets (m .traits) (c .traits * 5) (numbers t) in omega arith);
           many = rw (y .many, length-append) (omega arith);
           each = λ i l. at-end noTraits k (s .traits) (c .traits) i (λ i k. TraitRep (m .store) u (m .names) (c .names) (traitAt U i) k) (y .many)
               (λ o. old i o) new l;
@@ -224,10 +184,10 @@ module _ {u : ℕ} {m : Memory} {c : Cursor} {s : Tables} (x : Sim u m c s) wher
       }
     where
       U : List ℕ
-      U = sets (m .traits) (c .traits * 5) (t .begin ∷ t .size ∷ t .dynamic ∷ t .first ∷ t .count ∷ [])
+      U = sets (m .traits) (c .traits * 5) (numbers t)
 
       same : Kept (c .traits * 5) (m .traits) U
-      same = kept-sets (c .traits * 5) (c .traits * 5) (t .begin ∷ t .size ∷ t .dynamic ∷ t .first ∷ t .count ∷ []) (m .traits) (omega arith)
+      same = kept-sets (c .traits * 5) (c .traits * 5) (numbers t) (m .traits) (omega arith)
 
       old : (i : ℕ) → i < c .traits → TraitRep (m .store) u (m .names) (c .names) (traitAt U i) (getD (s .traits) i noTraits)
       old i o =
@@ -241,8 +201,8 @@ module _ {u : ℕ} {m : Memory} {c : Cursor} {s : Tables} (x : Sim u m c s) wher
           )
           (x .kinds .each i o)
 
-      at : (j : ℕ) → j < 5 → getD U (c .traits * 5 + j) 0 ≡ getD (t .begin ∷ t .size ∷ t .dynamic ∷ t .first ∷ t .count ∷ []) j 0
-      at j l = sets-at (t .begin ∷ t .size ∷ t .dynamic ∷ t .first ∷ t .count ∷ []) (m .traits) (c .traits * 5) j (omega arith) h
+      at : (j : ℕ) → j < 5 → getD U (c .traits * 5 + j) 0 ≡ getD (numbers t) j 0
+      at j l = sets-at (numbers t) (m .traits) (c .traits * 5) j (omega arith) h
 
       new : TraitRep (m .store) u (m .names) (c .names) (traitAt U (c .traits)) k
       new =
@@ -266,7 +226,7 @@ module _ {u : ℕ} {m : Memory} {c : Cursor} {s : Tables} (x : Sim u m c s) wher
         objects = record {
           fits = rw length-set (omega arith);
           many = rw (y .many, length-append) (omega arith);
-          each = λ i k. at-end none none (s .objects) (c .objects) i (λ i t. Entry (landOf u m c) (getD O i 0) t) (y .many)
+          each = λ i k. at-end none none (s .objects) (c .objects) i (λ i t. Entry (landTo u m c) (getD O i 0) t) (y .many)
               (λ o. rw (same i o) (y .each i o)) (rw here (l, o)) k;
           order = λ i j a b. ordered i j a b;
         };
@@ -314,7 +274,7 @@ module _ {u : ℕ} {m : Memory} {c : Cursor} {s : Tables} (x : Sim u m c s) wher
         };
       }
     where
-      entry : (q : ℕ) (z : Option Tree) → q ≢ r → Entry (landOf u m c) q z
+      entry : (q : ℕ) (z : Option Tree) → q ≢ r → Entry (landTo u m c) q z
           → Entry (land (put (m .rows) r colEnd (c .rows)) (c .rows) (m .store) u) q z
       entry q none d h = let f : q * 12 + 11 ≢ r * 12 + 11 = omega arith in (h .0, rw getD-set-other (h .1))
-      entry q (some z) d h = own-ext (ext-put x r colEnd (c .rows) o (omega arith)) z q h
+      entry q (some z) d h = own-ext (ext-put (landTo u m c) r colEnd (c .rows) o (omega arith)) z q h

@@ -13,8 +13,10 @@ use Rattle.rows.specs.Memory.{Memory, noKey, put}
 use Rattle.format.specs.Decide.{onRows, looking, counted, sealedKey}
 use Rattle.format.specs.Reading.{_>>=_, _>>_, Reader, Values, decided, by, entries, pair, pairs}
 use Rattle.format.specs.RowTest.{Given, keyless, keyed, filled}
-use Rattle.format.proofs.Lands.{Land, at, Done, Valid, Meets, bare, named, long, Run, ends, run-ext, run-more, Ext, ext-same, ext-trans}
-use Rattle.format.proofs.Stages.{withRows, landOf, Ok, keep-ext, Stage, stage-put, stage-ext, stage-later, Val}
+use Rattle.format.proofs.Memories.{withRows}
+use Rattle.format.proofs.Ground.{Land, at, Done, Ext, ext-same, ext-trans, landOf}
+use Rattle.format.proofs.Lands.{Valid, Meets, bare, named, long, Run, ends, run-ext, run-more}
+use Rattle.format.proofs.Stages.{Ok, keep-ext, Stage, stage-put, stage-ext, stage-later, Val}
 use Rattle.format.proofs.Posts.{Post, stops, gets, post-then, post-map, post-by, wp-counted, wp-sealed}
 use Rattle.format.proofs.Heard.{Heard, text-heard}
 

@@ -6,7 +6,7 @@ use Prim.Native.Nat.{ℕ, suc, _+_, _-_, _^_, _%_, _<_, _≤_}
 use native.Mathlib.Omega.{arith}
 use borrow.Author.Tests.{le-leb, ltb-false, eqb-true, eqb-false}
 use lib.Dec.{ltb, eqb}
-use lib.ListN.{length, getD, take, drop, length-take, length-drop}
+use lib.ListN.{length, getD}
 use lib.Seq.{drop-cons}
 use Rattle.rows.specs.declared.Cursor.{Cursor}
 use Rattle.rows.specs.declared.Span.{Span}
@@ -17,9 +17,10 @@ use Rattle.format.specs.Standard.{isStar}
 use Rattle.format.specs.Decide.{classOf, objectClass, vectorClass}
 use Rattle.format.specs.Unfold.{part}
 use Rattle.format.specs.RowTest.{signedFits}
-use Rattle.format.proofs.Feeding.{on-bool}
-use Rattle.format.proofs.Lands.{Land, Valid, Class, classless, class, Full}
-use Rattle.format.proofs.RowTests.{or-true}
+use Rattle.format.proofs.Tests.{on-bool, or-true}
+use Rattle.format.proofs.Lists.{part-length}
+use Rattle.format.proofs.Ground.{Land}
+use Rattle.format.proofs.Lands.{Valid, Class, classless, class, Full}
 use Rattle.format.proofs.Posts.{wp-classed, Gives}
 
 -- ---- numbers
@@ -48,8 +49,7 @@ star-length (b ∷ []) h = absurd (h refl)
 star-length (b ∷ c ∷ xs) h = refl
 
 pub star-other : (B : List ℕ) (b z : ℕ) → b + z ≤ length B → (z ≡ 1 → ⊥) → isStar (part B b z) ≡ false
-unfolding part
-star-other B b z l h = star-length (take z (drop b B)) (λ e. h (let f = length-take z (drop b B) in let k = length-drop b B in omega arith))
+star-other B b z l h = star-length (part B b z) (λ e. h (let f = part-length B b z l in omega arith))
 
 pub star-one : (B : List ℕ) (b z : ℕ) → b + z ≤ length B → z ≡ 1 → isStar (part B b z) ≡ eqb (getD B b 0) 0x2A
 unfolding part

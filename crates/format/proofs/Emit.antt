@@ -9,10 +9,10 @@ use native.Mathlib.Decide.{decLt}
 use borrow.Author.Tests.{le-ltb, lt-ltb}
 use lib.Dec.{ltb, leb·suc-suc}
 use Rattle.format.specs.Standard.{Tree, plain, array, object, objectVector, dictionary, Trees, nil, cons, Pairs, noPairs, pair, Entries}
-use Rattle.format.specs.Standard.{noEntries, entry}
-use Rattle.format.specs.Standard.{encodePlain, encode}
+use Rattle.format.specs.Standard.{noEntries, entry, encodePlain, encode}
 use Rattle.format.specs.Writing.{Stream, done, deep, byte, _then_, these, bytesOf, isDeep}
 use Rattle.format.specs.Writing.{emitTrees, emitPairs, emitValues, emitDynamic, emitEntries, emitIn, emit}
+use Rattle.format.proofs.Tests.{or-true, clash}
 use Rattle.format.proofs.Parts.{Piece, own, child, treeParts, pairParts, valueParts, dynamicParts, entryParts, parts}
 use Rattle.format.proofs.Parts.{bytesIn, joined, encode-parts, depth, depthIn, deepest, depth-parts}
 
@@ -39,7 +39,7 @@ deep-either (byte b x) y = deep-either x y
 -- nothing comes after a stop
 deep-then : (x y : Stream) → isDeep x ≡ true → x then y ≡ x
 unfolding isDeep _then_
-deep-then done y e = let z : _≡_ {A = ℕ} 0 1 = cc in absurd (omega arith)
+deep-then done y e = clash cc
 deep-then deep y e = refl
 deep-then (byte b x) y e = ap (byte b) (deep-then x y e)
 
@@ -69,7 +69,7 @@ begins-these (b ∷ bs) = goes b (begins-these bs)
 pub begins-whole : {x : Stream} {bs : List ℕ} → Begins x bs → isDeep x ≡ false → bytesOf x ≡ bs
 unfolding isDeep bytesOf
 begins-whole whole e = refl
-begins-whole stops e = let z : _≡_ {A = ℕ} 0 1 = cc in absurd (omega arith)
+begins-whole stops e = clash cc
 begins-whole (goes b g) e = ap (λ (l : List ℕ). b ∷ l) (begins-whole g e)
 
 pub begins-prefix : {x : Stream} {bs : List ℕ} → Begins x bs → (rest : List ℕ) × (bs ≡ bytesOf x ++ rest)
@@ -212,14 +212,10 @@ nested-bytes (suc n) t u x a = let (y, e) = among-bytes (nested-bytes n) a in (y
 abbrev Stopped : Stream → List ℕ → Type 0
 Stopped s x = (isDeep s ≡ true) × Begins s x
 
-or-true : (a : Bool) → (a || true) ≡ true
-or-true true = refl
-or-true false = refl
-
 bytes-then : (x y : Stream) → isDeep x ≡ false → bytesOf (x then y) ≡ bytesOf x ++ bytesOf y
 unfolding isDeep bytesOf _then_
 bytes-then done y e = refl
-bytes-then deep y e = let z : _≡_ {A = ℕ} 0 1 = cc in absurd (omega arith)
+bytes-then deep y e = clash cc
 bytes-then (byte b x) y e = ap (λ (l : List ℕ). b ∷ l) (bytes-then x y e)
 
 module _ (f : Tree → Stream) (begins : (t : Tree) → Begins (f t) (encode t)) where
@@ -235,7 +231,7 @@ module _ (f : Tree → Stream) (begins : (t : Tree) → Begins (f t) (encode t))
     piece-stop : (ps : List Piece) (d : Bool) (p : Piece) → isDeep (emitPiece f p) ≡ d → isDeep (emitPiece f p then emitParts f ps) ≡ true
         → (isDeep (emitParts f ps) ≡ true → (u : Tree) × Among (Nested n) ps u (bytesOf (emitParts f ps)))
         → (u : Tree) × Among (Nested n) (p ∷ ps) u (bytesOf (emitPiece f p then emitParts f ps))
-    piece-stop ps true (own bs) g e more = let h = these-deep bs in let z : _≡_ {A = ℕ} 0 1 = cc in absurd (omega arith)
+    piece-stop ps true (own bs) g e more = let h = these-deep bs in clash cc
     piece-stop ps true (child t) g e more = let (u, h) = good t g in (u, rw (deep-then (f t) (emitParts f ps) g) (here h))
     piece-stop ps false p g e more =
         let d : isDeep (emitParts f ps) ≡ true = rw g at (sym (deep-either (emitPiece f p) (emitParts f ps)) ∙ e) in
@@ -244,7 +240,7 @@ module _ (f : Tree → Stream) (begins : (t : Tree) → Begins (f t) (encode t))
 
     parts-stop : (ps : List Piece) → isDeep (emitParts f ps) ≡ true → (u : Tree) × Among (Nested n) ps u (bytesOf (emitParts f ps))
     unfolding emitParts isDeep
-    parts-stop [] e = let z : _≡_ {A = ℕ} 0 1 = cc in absurd (omega arith)
+    parts-stop [] e = clash cc
     parts-stop (p ∷ ps) e = piece-stop ps (isDeep (emitPiece f p)) p refl e (parts-stop ps)
 
 pub nested-deep : (n : ℕ) (t u : Tree) (x : List ℕ) → Nested n t u x → (isDeep (emit n t) ≡ true) × Begins (emit n t) x

@@ -18,14 +18,18 @@ use Rattle.format.specs.Reading as our
 use Rattle.format.specs.Reading.{Values, ResultOf, ok, bind, Reader, decided, taken}
 use Rattle.format.specs.Standard as std
 use Rattle.format.specs.Standard.{Tables, Tree, Std}
+use Rattle.format.proofs.Tests.{clash}
+use Rattle.format.proofs.Lists.{kept-sets, sets-at}
+use Rattle.format.proofs.Memories.{withRows, withObjects}
+use Rattle.format.proofs.Ground.{Land, at, ext-trans, ext-put, landOf, landTo}
 use Rattle.format.proofs.Alike.{Left, Agree, fine, both}
-use Rattle.format.proofs.Rep.{Land, col, goal, face, Is, Own, before, own-head, own-rep, own-ext, Kids}
-use Rattle.format.proofs.Tables.{kept-sets, sets-at, Entry, landOf, Sim}
-use Rattle.format.proofs.Changes.{withRows, withObjects, addObject, setObject, sim-at, sim-row, ext-put}
+use Rattle.format.proofs.Rep.{goal, face, Is, Own, before, own-head, own-rep, own-ext, Kids}
+use Rattle.format.proofs.Tables.{Entry, Sim}
+use Rattle.format.proofs.Changes.{addObject, setObject, sim-at, sim-row}
 use Rattle.format.proofs.Stage.{Keep, Val, Stage, objects-below, open-row, stage-put, stage-enter, faceOf, ends-col, ends-row, ends-own}
 use Rattle.format.proofs.Stage.{ends-val}
 use Rattle.format.proofs.Texts.{limit}
-use Rattle.format.proofs.Loops.{stage-used, ext-trans}
+use Rattle.format.proofs.Loops.{stage-used}
 
 -- ---- the end
 
@@ -38,14 +42,14 @@ free {m} {c} {s} u t x =
 
 module _ {whole : List ℕ} {m₀ : Memory} {c₀ : Cursor} {cs : List ℕ} {m : Memory} {c : Cursor} {s : Tables} (bs : List ℕ) (k : Key) where
   pub ends-object : (t : Tree) → Stage true m₀ c₀ cs (c .store) m c s → getD cs 2 0 ≡ k .begin → getD cs 3 0 ≡ k .size → c₀ .at < c .at
-      → Is t (faceOf cs (m .store)) → getD cs 4 0 + getD cs 5 0 ≤ c .store → Kids t (landOf (c .store) m c) (c₀ .rows) (c .rows)
+      → Is t (faceOf cs (m .store)) → getD cs 4 0 + getD cs 5 0 ≤ c .store → Kids t (landOf m c) (c₀ .rows) (c .rows)
       → Left whole (c .at) bs → Agree whole (Val m₀ c₀ k) (decided (onRows (closed (c₀ .rows)) m c) m bs)
       (ok t (setObject (c₀ .objects) t s) (c .at) bs)
   unfolding closed
   ends-object t x b z l i h q r = let w = ends-own x t i h q in rw (stage-used x) (fine r (ends-val x k t b z l (own-rep t _ (c₀ .rows) w) (λ e. w)))
 
   pub ends-free : (t : Tree) → Stage false m₀ c₀ cs (c .store) m c s → getD cs 2 0 ≡ k .begin → getD cs 3 0 ≡ k .size → c₀ .at < c .at
-      → Is t (faceOf cs (m .store)) → getD cs 4 0 + getD cs 5 0 ≤ c .store → Kids t (landOf (c .store) m c) (c₀ .rows) (c .rows)
+      → Is t (faceOf cs (m .store)) → getD cs 4 0 + getD cs 5 0 ≤ c .store → Kids t (landOf m c) (c₀ .rows) (c .rows)
       → Left whole (c .at) bs → Agree whole (Val m₀ c₀ k) (decided (onRows (closed (c₀ .rows)) m c) m bs) (ok t s (c .at) bs)
   unfolding closed
   ends-free t x b z l i h q r =
@@ -107,8 +111,8 @@ module _ {m : Memory} {c : Cursor} {s : Tables} (x : Sim (c .store) m c s) (l : 
       → getD cs 2 0 ≡ k .begin → getD cs 3 0 ≡ k .size → Is (std.plain p) (faceOf cs (m .store))
       → Val m c k tt (rowed m c cs) (rowedTo c) (std.plain p) s
   leaf-val k cs p e n z b d i =
-      let L : Land = landOf (c .store) (rowed m c cs) (rowedTo c) in
-      let a : (j : ℕ) → j < 12 → col L (c .rows) j ≡ getD cs j 0 = row-at cs e in
+      let L : Land = landTo (c .store) (rowed m c cs) (rowedTo c) in
+      let a : (j : ℕ) → j < 12 → at L (c .rows) j ≡ getD cs j 0 = row-at cs e in
       let g : face L (c .rows) ≡ faceOf cs (m .store) =
       rw (
         a 0 (omega arith),
@@ -164,22 +168,22 @@ module _ {m₀ : Memory} {c₀ : Cursor} {b : ℕ} {k : Key} {m : Memory} {c : C
       let u = w .0 in
       rw (o, x .keep .rows (getD (m₀ .objects) i 0 * 12 + 11) (omega arith)) (w .1)
 
-  refer-val : (i : ℕ) (t : Tree) → c₀ .at < c .at → i < c .objects → Own t (landOf (c .store) m c) (getD (m .objects) i 0)
+  refer-val : (i : ℕ) (t : Tree) → c₀ .at < c .at → i < c .objects → Own t (landOf m c) (getD (m .objects) i 0)
       → Val m₀ c₀ k tt (withRows m (put (put (put (m .rows) (c₀ .rows) 0 18) (c₀ .rows) 8 (getD (m .objects) i 0)) (c₀ .rows) colEnd (c .rows))) c t s
   refer-val i t l h o =
       let g : ℕ = getD (m .objects) i 0 in
       let x₁ = stage-put x 0 18 (omega arith) in
       let x₂ = stage-put x₁ 8 g (omega arith) in
-      let e = ext-trans (ext-put (x .sim) (c₀ .rows) 0 18 (open-row x) (omega arith))
-      (ext-trans (ext-put (x₁ .sim) (c₀ .rows) 8 g (open-row x₁) (omega arith))
-      (ext-put (x₂ .sim) (c₀ .rows) colEnd (c .rows) (open-row x₂) (omega arith))) in
-      let d = own-head t (landOf (c .store) m c) g o in
+      let e = ext-trans (ext-put (landOf m c) (c₀ .rows) 0 18 (open-row x) (omega arith))
+      (ext-trans (ext-put _ (c₀ .rows) 8 g (open-row x₁) (omega arith))
+      (ext-put _ (c₀ .rows) colEnd (c .rows) (open-row x₂) (omega arith))) in
+      let d = own-head t (landOf m c) g o in
       let n = x .newer in
-      let L : Land = landOf (c .store) (withRows m (put (put (put (m .rows) (c₀ .rows) 0 18) (c₀ .rows) 8 g) (c₀ .rows) colEnd (c .rows))) c in
+      let L : Land = landOf (withRows m (put (put (put (m .rows) (c₀ .rows) 0 18) (c₀ .rows) 8 g) (c₀ .rows) colEnd (c .rows))) c in
       let w : goal L (c₀ .rows) ≡ g = rw (ends-row x₂ 0 (omega arith), ends-row x₂ 8 (omega arith)) in
-      let q : col L g colEnd ≤ c₀ .rows = rw (e .cols g 11 (d .0, d .1) (omega arith)) (ended-before i h) in
+      let q : at L g colEnd ≤ c₀ .rows = rw (e .cols g 11 (d .0, d .1) (omega arith)) (ended-before i h) in
       let v = ends-val x₂ k t refl refl l (rw (w, ends-col x₂) ((n, omega arith), before q, own-ext e t g o))
-      (λ e. absurd (let z : _≡_ {A = ℕ} 0 1 = cc in omega arith)) in
+      (λ e. clash cc) in
       rw (free (c .store) t (x .sim)) at v
 
   pub refer-alike : {whole : List ℕ} (i : ℕ) (bs : List ℕ) → c₀ .at < c .at → Left whole (c .at) bs
@@ -201,7 +205,7 @@ module _ {m₀ : Memory} {c₀ : Cursor} {b : ℕ} {k : Key} {m : Memory} {c : C
       used : (g : ℕ) → g < c .rows → rowUsed (m .rows) c g ≡ true
       used g h = let d = x .sim .rowsIn in rw (lt-ltb g (c .rows) h, le-leb (c .rows) (length (m .rows) / 12) (omega arith))
 
-      entry : i < c .objects → (o : Option Tree) → Entry (landOf (c .store) m c) (getD (m .objects) i 0) o
+      entry : i < c .objects → (o : Option Tree) → Entry (landOf m c) (getD (m .objects) i 0) o
           → Agree whole (Val m₀ c₀ k) (decided (lift (λ R. withRows m R)
           (cond (not (rowUsed (m .rows) c (getD (m .objects) i 0))) (stop 12 0 0)
           (cond (ltb (c .rows) (cell (m .rows) (getD (m .objects) i 0) colEnd)) (stop 12 0 0)
@@ -212,7 +216,7 @@ module _ {m₀ : Memory} {c₀ : Cursor} {b : ℕ} {k : Key} {m : Memory} {c : C
       entry h none z =
           rw (used (getD (m .objects) i 0) (z .0), z .1, le-ltb (c .rows) 0 (omega arith)) (both (lit≤ tt) (lit≤ tt))
       entry h (some t) z =
-          let d = own-head t (landOf (c .store) m c) (getD (m .objects) i 0) z in
+          let d = own-head t (landOf m c) (getD (m .objects) i 0) z in
           let p = d .0 in
           let q = d .1 in
           let v : cell (m .rows) (getD (m .objects) i 0) colEnd ≡ 0 → ⊥ = λ e. omega arith in

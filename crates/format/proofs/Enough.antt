@@ -20,11 +20,11 @@ use Rattle.wire.specs.Date.{dateOf}
 use Rattle.wire.specs.Sign.{integerOf, columnOf}
 use Rattle.format.specs.Decide.{Out, give, refuse, lost, lift, looking, onRows, onStore, onStrings, onObjects, onTraits, onNames, inRow}
 use Rattle.format.specs.Decide.{Width, widthOf, marker, newRow, closed, numbered, integerEnd, dated, dateEnd, bodied, classed, objectClass}
-use Rattle.format.specs.Decide.{vectorClass, flagged, counted, grown}
-use Rattle.format.specs.Decide.{classOf, rowsTo, stringsTo, objectsTo, traitsTo}
+use Rattle.format.specs.Decide.{vectorClass, flagged, counted, grown, classOf, rowsTo, stringsTo, objectsTo, traitsTo}
 use Rattle.format.specs.Decide.{reserved, stored, judged, textEnd, entered, named, traitEnd, traitHolds, sealedKey, starred}
 use Rattle.format.specs.Reading.{by}
 use Rattle.format.specs.Holds.{room, nothing, aRow}
+use Rattle.format.proofs.Memories.{numbers}
 use Rattle.format.proofs.Holds.{Any, Goes, Decides, goes-by, in-row}
 
 -- ---- decisions on a row
@@ -181,10 +181,10 @@ goes-trait t =
     either : (m : Memory) (c : Cursor) (u : Bool) → Decides Any (room 0 0 0 0 1 0) m c
         (lift (λ U. memory (m .rows) (m .store) (m .strings) (m .objects) U (m .names))
         (cond (not u) lost
-        (give (tt {0}) (sets (m .traits) (c .traits * traitWidth) (t .begin ∷ t .size ∷ t .dynamic ∷ t .first ∷ t .count ∷ []))
+        (give (tt {0}) (sets (m .traits) (c .traits * traitWidth) (numbers t))
         (traitsTo c (c .traits + 1)))))
     either m c true =
-        (tt, λ l x f. omega (arith, length-sets (m .traits) (c .traits * traitWidth) (t .begin ∷ t .size ∷ t .dynamic ∷ t .first ∷ t .count ∷ [])))
+        (tt, λ l x f. omega (arith, length-sets (m .traits) (c .traits * traitWidth) (numbers t)))
     either m c false = refl
 
 pub goes-sealed-key : (i : ℕ) → Goes Any (by (looking (λ m. sealedKey i (m .names)))) [] nothing

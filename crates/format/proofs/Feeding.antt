@@ -1,7 +1,7 @@
 -- Feeding is reading: the bytes one by one, and then the end, give what the whole reading gives.
 -- `sem s` is what a state still has to read. One byte of it is one step, and where there is no byte it is the end.
 use mathlib.Core.Path.{_≡_, refl, sym, _∙_}
-use mathlib.Core.Bool.{Bool, true, false, cond}
+use mathlib.Core.Bool.{Bool, cond}
 use mathlib.Core.List.{List, [], _∷_}
 use Prim.Native.Nat.{ℕ, zero, suc, _+_, _*_, _-_, _/_, _^_}
 use native.Mathlib.Omega.{arith}
@@ -26,8 +26,7 @@ use Rattle.format.specs.declared.Frame.{Frame}
 use Rattle.format.specs.Decide.{Out, stop, give, refuse, lost, looking, onRows, onStrings, onTraits, onNames}
 use Rattle.format.specs.Decide.{Body, xml, date, array, bytes, raw, objects, dictionary, Kind, leaf, integer, double, string, object, sized}
 use Rattle.format.specs.Decide.{marker, closed, numbered, integerEnd, dateEnd, bodied, vectorClass, fixed, weak, flagged}
-use Rattle.format.specs.Decide.{counted, judged, textEnd, traitOf, named, traitEnd}
-use Rattle.format.specs.Decide.{sealedKey, starred}
+use Rattle.format.specs.Decide.{counted, judged, textEnd, traitOf, named, traitEnd, sealedKey, starred}
 use Rattle.format.specs.Reading.{ok, bad, bind, _>>=_, _>>_, ret, Result, Reader, decided, by, byte, u29, number, chars, fill, textOf, text, plain}
 use Rattle.format.specs.Reading.{Values, entries, pair, pairs, names, dynamics as dynamicsOf, members as membersRead, inlined, objectOf, room, charsOf}
 use Rattle.format.specs.Reading.{filled, newOf, sizedOf, marked, value, Ended, finished, refusal, ended, unlessFault, reading, onPart as partRead}
@@ -39,6 +38,7 @@ use Rattle.format.specs.Step.{Mode, atMarker, atWord, atNumber, atFlag, 
 use Rattle.format.specs.Step.{go, entry, pop, onward, keyed, members, naming, had, textDone, reservedFor, stringSized, roomy, texting, rawRow}
 use Rattle.format.specs.Step.{filling, opened, bodySized, objectShaped, worded, numberDone, flagDone, rawGrown, begun, onPart, act, step, run, end}
 use Rattle.format.specs.Step.{beginAt, begin}
+use Rattle.format.proofs.Tests.{on-bool}
 
 -- ---- what is done after a reader
 
@@ -58,10 +58,6 @@ flat (bad n told place m) f k = refl
 same : {A : Type 0} (v : Result A) (k l : Cont A) → ((a : A) (m : Memory) (c : Cursor) (bs : List ℕ) → k a m c bs ≡ l a m c bs) → andThen v k ≡ andThen v l
 same (ok a m c bs) k l h = h a m c bs
 same (bad n told place m) k l h = refl
-
-pub on-bool : {X : Type 0} (t : Bool) → (t ≡ true → X) → (t ≡ false → X) → X
-on-bool true f g = f refl
-on-bool false f g = g refl
 
 -- ---- what is left to read
 

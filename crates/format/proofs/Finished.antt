@@ -2,22 +2,25 @@
 use mathlib.Core.Path.{_≡_, refl, sym, ap, _∙_}
 use mathlib.Core.Bool.{true}
 use mathlib.Core.List.{List}
-use Prim.Native.Nat.{ℕ, zero, suc, _+_, _*_, _^_, _<_, _≤_}
+use Prim.Native.Nat.{ℕ, zero, suc, _*_, _^_, _<_, _≤_}
 use native.Mathlib.Omega.{arith}
 use lib.ListN.{length, take}
 use lib.Seq.{length-take-le, getD-take}
 use Rattle.rows.specs.declared.Cursor.{Cursor}
-use Rattle.rows.specs.Memory.{Memory, zeroed, fresh, faultOf, openLimit, noKey, rowWidth, colKind, colNumber}
+use Rattle.rows.specs.Memory.{Memory, zeroed, fresh, faultOf, openLimit, noKey, colKind, colNumber}
 use Rattle.rows.specs.Kinds.{kindDate}
 use Rattle.format.specs.Reading.{Result, Ended, finished, ended, unlessFault, value, reading}
 use Rattle.format.specs.Step.{over, run, end, begin}
 use Rattle.format.specs.Unfold.{rowsIn, col}
 use Rattle.format.specs.RowTest.{wellFormed, fine, tested, keyless}
+use Rattle.format.proofs.Tests.{clash}
+use Rattle.format.proofs.Lists.{Kept}
+use Rattle.format.proofs.Ground.{land, Ext, ext-kept, landOf}
 use Rattle.format.proofs.Feeding.{feeding}
-use Rattle.format.proofs.Lands.{land, bare, Ext, sound-ext}
-use Rattle.format.proofs.Meaning.{usedRows}
+use Rattle.format.proofs.Lands.{bare, sound-ext}
+use Rattle.format.proofs.Meaning.{usedRows, used-many}
 use Rattle.format.proofs.RowTests.{Passes, Table, Writes, well-formed, all-write, passing, fine-without}
-use Rattle.format.proofs.Stages.{Kept, part-kept, landOf, Ok, Val}
+use Rattle.format.proofs.Stages.{Ok, Val}
 use Rattle.format.proofs.Posts.{Post, stops, gets}
 use Rattle.format.proofs.ValueRows.{value-reads}
 
@@ -36,7 +39,7 @@ ok-fresh m =
 -- what the reading of the whole message leaves
 finished-val : {Q : Memory → Cursor → Type 0} (x : Result Unit) (c : Cursor) (m : Memory) → Post (λ u. Q) x → ended x ≡ finished c m → Q m c
 unfolding ended
-finished-val x c m stops e = let z : _≡_ {A = ℕ} 0 1 = cc in absurd (omega arith)
+finished-val x c m stops e = clash cc
 finished-val {Q} x c m (gets {m = m₁} {c = c₁} h) e = let p : m₁ ≡ m = cc in let q : c₁ ≡ c = cc in rw (p, q) at h
 
 -- no loan is faulty then
@@ -60,15 +63,9 @@ finished-table m bs c m′ e B l k =
     let s = v .ok .storeIn in
     let w = v .newer in
     let R : List ℕ = take (c .rows * 12) (m′ .rows) in
-    let n : length R ≡ c .rows * 12 = length-take-le (c .rows * 12) (m′ .rows) a in
-    let q : rowsIn R ≡ c .rows = omega arith in
+    let q : rowsIn R ≡ c .rows = used-many c m′ a in
     let x : Ext (landOf m′ c) (land R (rowsIn R) B (c .store)) =
-    record {
-      up = omega arith;
-      cols = λ i j d h. (let p = d .0 in let r = d .1 in getD-take (c .rows * 12) (m′ .rows) (i * 12 + j) 0 (omega arith));
-      fill = omega arith;
-      parts = λ b z h. part-kept (c .store) (m′ .store) B b z k s l h;
-    } in
+    ext-kept (omega arith) (λ i h. getD-take (c .rows * 12) (m′ .rows) i 0 h) (omega arith) k s l in
     record {
       room = l;
       all = λ i h. sound-ext x (v .each i (omega arith) (omega arith));

@@ -12,8 +12,7 @@ use lib.ListN.{length, length-replicate}
 use Rattle.rows.specs.declared.Span.{Span}
 use Rattle.rows.specs.declared.Key.{Key}
 use Rattle.rows.specs.declared.Trait.{Trait}
-use Rattle.rows.specs.Memory.{Memory, messageLimit, openLimit, colCount, colCount2, noKey, keyOf, fresh, zeros}
-use Rattle.rows.specs.Memory.{zeroed, faultOf}
+use Rattle.rows.specs.Memory.{Memory, messageLimit, openLimit, colCount, colCount2, noKey, keyOf, fresh, zeros, zeroed, faultOf}
 use Rattle.wire.specs.U29 as w
 use Rattle.wire.specs.Sign.{bitsAt}
 use Rattle.wire.specs.Big.{bytesOf}
@@ -23,8 +22,7 @@ use Rattle.format.specs.Decide as k
 use Rattle.format.specs.Decide.{Body, Width, widthOf, kindOf, looking, sealedKey}
 use Rattle.format.specs.Reading as r
 use Rattle.format.specs.Reading.{_>>_, _>>=_, Reader, by, ret, u29, number, text, Values, entries, pairs, names, dynamics, members, inlined}
-use Rattle.format.specs.Reading.{objectOf, newOf, sizedOf, marked, value}
-use Rattle.format.specs.Reading.{Result, ok, bad, Ended, finished, refused, ended, reading}
+use Rattle.format.specs.Reading.{objectOf, newOf, sizedOf, marked, value, Result, ok, bad, Ended, finished, refused, ended, reading}
 use Rattle.format.specs.Standard.{Plain, undefined, null, boolean, integer, double, string, xmlDocument, xml, byteArray, date}
 use Rattle.format.specs.Standard.{intVector, uintVector, doubleVector}
 use Rattle.format.specs.Standard.{Tree, plain, array, object, objectVector, dictionary, Trees, nil, cons, Pairs, noPairs, pair, Entries}
@@ -40,8 +38,7 @@ use Rattle.format.specs.Holds.{canHold}
 use Rattle.format.proofs.Size.{holds, held-below}
 use Rattle.format.proofs.Words.{size-new, dynamicOf, trait-shape, trait-below}
 use Rattle.format.proofs.Holds.{Fits, Within, limit, Any, Good, Goes, goes-ret, goes-bind, goes-seq, goes-free, goes-end}
-use Rattle.format.proofs.Holds.{goes-last, goes-byte}
-use Rattle.format.proofs.Holds.{goes-lost, goes-any, goes-cursor}
+use Rattle.format.proofs.Holds.{goes-last, goes-byte, goes-lost, goes-any, goes-cursor}
 use Rattle.format.proofs.Enough.{goes-closed, goes-numbered, goes-integer, goes-date, goes-bodied, goes-class, goes-type, goes-flagged}
 use Rattle.format.proofs.Enough.{goes-counted, goes-grown, goes-marker, goes-judged, goes-entered, goes-named, goes-trait}
 use Rattle.format.proofs.Enough.{goes-sealed-key, goes-starred}

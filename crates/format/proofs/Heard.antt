@@ -4,7 +4,6 @@ use mathlib.Core.Bool.{true}
 use mathlib.Core.List.{List, [], _∷_}
 use Prim.Native.Nat.{ℕ, suc, _+_, _*_, _<_, _≤_}
 use native.Mathlib.Omega.{arith}
-use native.Mathlib.Decide.{decLt}
 use lib.ListN.{length, getD}
 use lib.Seq.{sets}
 use Rattle.rows.specs.declared.Cursor.{Cursor}
@@ -15,17 +14,15 @@ use Rattle.utf8.specs.Grammar.{validText, follow}
 use Rattle.format.specs.Decide.{stringsTo, traitsTo, namesTo, traitAt, classOf}
 use Rattle.format.specs.Reading.{text, plain, names}
 use Rattle.format.specs.Unfold.{part}
-use Rattle.format.proofs.States.{sets-in}
-use Rattle.format.proofs.Lands.{ValidIn, Valid, Ext, ext-same, valid-ext}
-use Rattle.format.proofs.Stages.{Kept, kept-sets, landOf, Ends, still, already, Ok, Keep, keep-ext, Stage, stage-later}
-use Rattle.format.proofs.Posts.{Post, atTo}
-use Rattle.format.proofs.Spans.{withStore, plain-only, wp-text}
+use Rattle.format.proofs.Lists.{sets-in, Kept, kept-sets, last-or}
+use Rattle.format.proofs.Memories.{atTo, withStore, numbers}
+use Rattle.format.proofs.Ground.{Ext, ext-same, landOf}
+use Rattle.format.proofs.Lands.{ValidIn, Valid, valid-ext}
+use Rattle.format.proofs.Stages.{Ends, still, already, Ok, Keep, keep-ext, Stage, stage-later}
+use Rattle.format.proofs.Posts.{Post}
+use Rattle.format.proofs.Spans.{plain-only, wp-text}
 
 -- ---- tables of spans
-
--- table entry i of n + 1 is an old one, or the last
-last-or : (n i : ℕ) (P : ℕ → Type 0) → (i < n → P i) → P n → i < n + 1 → P i
-last-or n i P old new h = elim (decLt i n) [ yes l ↦ old l | no l ↦ (let e : i ≡ n = omega arith in rw e new) ]
 
 module _ (B : List ℕ) (u : ℕ) (T : List ℕ) (n b z : ℕ) (room : n * 2 + 2 ≤ length T) (all : (i : ℕ) → i < n → ValidIn B u (spanAt T i))
     (v : ValidIn B u (span b z)) where
@@ -43,10 +40,6 @@ module _ (B : List ℕ) (u : ℕ) (T : List ℕ) (n b z : ℕ) (room : n * 2 + 2
           let p : getD S (n * 2) 0 ≡ b = sets-in (b ∷ z ∷ []) T (n * 2) (n * 2) 0 (omega arith) (omega arith) room in
           let q : getD S (n * 2 + 1) 0 ≡ z = sets-in (b ∷ z ∷ []) T (n * 2) (n * 2 + 1) 1 refl (omega arith) room in
           rw (p, q) v
-
--- a trait's numbers
-abbrev pub numbers : Trait → List ℕ
-numbers t = t .begin ∷ t .size ∷ t .dynamic ∷ t .first ∷ t .count ∷ []
 
 module _ (B : List ℕ) (u : ℕ) (T : List ℕ) (n : ℕ) (t : Trait) (room : n * 5 + 5 ≤ length T) (all : (i : ℕ) → i < n → ValidIn B u (classOf (traitAt T i)))
     (v : ValidIn B u (classOf t)) where

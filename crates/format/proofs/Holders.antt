@@ -27,10 +27,12 @@ use Rattle.format.specs.Reading as our
 use Rattle.format.specs.Unfold.{part}
 use Rattle.format.specs.Standard as std
 use Rattle.format.specs.Standard.{Tables, Traits, Std, Tree, array, object, objectVector, dictionary, count, countPairs}
+use Rattle.format.proofs.Tests.{flag-back}
+use Rattle.format.proofs.Memories.{withRows}
 use Rattle.format.proofs.Alike.{Left, Agree, both, then, flat, byte-then}
 use Rattle.format.proofs.Rep.{Text, text-ext, repp-ext}
 use Rattle.format.proofs.Tables.{Sim, Names, TraitRep}
-use Rattle.format.proofs.Changes.{withRows, addTraits, setObject}
+use Rattle.format.proofs.Changes.{addTraits, setObject}
 use Rattle.format.proofs.Stage.{Val, Stage, stage-at, stage-put}
 use Rattle.format.proofs.Texts.{part-none, text-then, text-size}
 use Rattle.format.proofs.Naming.{lasting, held, nothing, keep-text, names-alike, known-then, enter-trait}
@@ -138,11 +140,7 @@ module _ (whole : List ℕ) (octets : Bytes whole) (value : Values) (tree : Std 
       (rw e at (r .kids)) l))))
     where
       weak-flag : (g : ℕ) → not (eqb (weak g) 0) ≡ eqb g 1
-      weak-flag g = either (eqb g 1)
-        where
-          either : (t : Bool) → not (eqb (cond t 1 0) 0) ≡ t
-          either true = refl
-          either false = refl
+      weak-flag g = flag-back (eqb g 1)
 
   -- an object vector whose class is known
   vector-rest : (n g mark : ℕ) (q : Span) (zs : List ℕ) (class : Option (List ℕ)) (m : Memory) (c : Cursor) (s : Tables) (bs : List ℕ)

@@ -24,7 +24,7 @@ use Rattle.format.specs.Decide.{rowsTo, storeTo, stringsTo, objectsTo, t
 use Rattle.format.specs.Decide.{marker, closed, numbered, integerEnd, dated, dateEnd, bodied, classed, objectClass, vectorClass, flagged, counted}
 use Rattle.format.specs.Decide.{grown, oldText, reserved, stored, judged, textEnd, entered, referred, oldTrait, named, traitEnd, sealedKey, starred}
 use Rattle.format.specs.Numbers.{lentOf}
-use Rattle.format.proofs.Feeding.{on-bool}
+use Rattle.format.proofs.Tests.{on-bool}
 use Rattle.format.proofs.Used.{Counts, RowIn, SpanIn, KeyIn, Roomy, Grows, grows-same}
 
 -- ---- what a decision keeps

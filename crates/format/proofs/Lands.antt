@@ -1,5 +1,5 @@
 -- What a finished row shows, as the reading leaves it: one form for each kind of row. It lasts while rows and store grow.
-use mathlib.Core.Path.{_≡_, refl, _∙_}
+use mathlib.Core.Path.{_≡_, _∙_}
 use mathlib.Core.Bool.{true, false}
 use mathlib.Core.List.{List, [], _∷_}
 use Prim.Native.Nat.{ℕ, suc, _+_, _*_, _<_, _≤_}
@@ -8,28 +8,12 @@ use lib.Dec.{T}
 use lib.ListN.{getD}
 use Rattle.rows.specs.declared.Span.{Span}
 use Rattle.rows.specs.declared.Key.{Key}
-use Rattle.rows.specs.Memory.{cell, span, colKind, colKeyMark, colKeySize, colEnd}
+use Rattle.rows.specs.Memory.{span, colKind, colKeyMark, colKeySize, colEnd}
 use Rattle.utf8.specs.Grammar.{validText}
 use Rattle.format.specs.Standard.{isStar}
 use Rattle.format.specs.Unfold.{part}
 use Rattle.format.specs.RowTest.{isObject, signedFits, Given, keyless, keyed, filled, markOf, isFilled}
-
--- the rows, how many are used, the store, and how much of it is used
-pub record Land : Type 0 where
-  pub rows : List ℕ
-  pub used : ℕ
-  pub store : List ℕ
-  pub full : ℕ
-
-abbrev pub land : List ℕ → ℕ → List ℕ → ℕ → Land
-land R n B u = record { rows = R; used = n; store = B; full = u }
-
-abbrev pub at : Land → ℕ → ℕ → ℕ
-at L i j = cell (L .rows) i j
-
--- a row that ends where rows are used
-abbrev pub Done : Land → ℕ → Type 0
-Done L i = (i < at L i colEnd) × (at L i colEnd ≤ L .used)
+use Rattle.format.proofs.Ground.{Land, at, Done, Ext, done-ext}
 
 -- ---- spans
 
@@ -131,20 +115,7 @@ pub record Sound (L : Land) (i : ℕ) : Type 0 where
 
 -- ---- it lasts
 
--- what is finished in L is in L′
-pub record Ext (L L′ : Land) : Type 0 where
-  pub up : L .used ≤ L′ .used
-  pub cols : (i j : ℕ) → Done L i → j < 12 → at L′ i j ≡ at L i j
-  pub fill : L .full ≤ L′ .full
-  pub parts : (b z : ℕ) → b + z ≤ L .full → part (L′ .store) b z ≡ part (L .store) b z
-
-pub ext-same : (L : Land) → Ext L L
-ext-same L = record { up = omega arith; cols = λ i j d l. refl; fill = omega arith; parts = λ b z l. refl }
-
 module _ {L L′ : Land} (x : Ext L L′) where
-  pub done-ext : (i : ℕ) → Done L i → Done L′ i
-  done-ext i h = let u = x .up in rw (x .cols i 11 h (omega arith)) (h .0, omega arith)
-
   pub within-ext : {s : Span} → Within L s → Within L′ s
   within-ext h = let u = x .fill in let i = h .inside in record { inside = omega arith; empty = h .empty }
 
@@ -159,7 +130,7 @@ module _ {L L′ : Land} (x : Ext L L′) where
   pub run-ext : {g : Given} {k e n : ℕ} → Run L g k e n → Run L′ g k e n
   run-ext ends = ends
   run-ext (goes {k = k} {e = e} {n = n} d m r) =
-      goes {e = e} {n = n} (done-ext k d) (record {
+      goes {e = e} {n = n} (done-ext x k d) (record {
         mark = x .cols k 1 d (omega arith) ∙ m .mark;
         size = λ t. rw (x .cols k 3 d (omega arith)) (m .size t);
       })
@@ -183,20 +154,7 @@ module _ {L L′ : Land} (x : Ext L L′) where
   form-ext (vector c f a) = vector (class-other c) f (run-ext a)
   form-ext (dictionary f a) = dictionary f (run-ext a)
   form-ext (reference {t = t} l d h o e) =
-      reference l (done-ext t d) (rw (x .cols t 11 d (omega arith)) h) (rw (x .cols t 0 d (omega arith)) o) e
-
-pub ext-trans : {L L′ L″ : Land} → Ext L L′ → Ext L′ L″ → Ext L L″
-ext-trans x y =
-    let a = x .up in
-    let b = y .up in
-    let d = x .fill in
-    let e = y .fill in
-    record {
-      up = omega arith;
-      cols = λ i j h l. y .cols i j (done-ext x i h) l ∙ x .cols i j h l;
-      fill = omega arith;
-      parts = λ b z l. y .parts b z (omega arith) ∙ x .parts b z l;
-    }
+      reference l (done-ext x t d) (rw (x .cols t 11 d (omega arith)) h) (rw (x .cols t 0 d (omega arith)) o) e
 
 -- children end behind where they begin
 pub run-up : {L : Land} {g : Given} {k e n : ℕ} → Run L g k e n → k ≤ e

@@ -1,3 +1,8 @@
+-- Laws that the others share.
+pub mod Tests
+pub mod Lists
+pub mod Memories
+pub mod Ground
 -- The worked examples, and that each call has one outcome.
 pub mod Examples
 pub mod Unique

@@ -7,7 +7,7 @@ use borrow.Author.Tests.{ltb-false}
 use lib.Dec.{ltb}
 use lib.ListN.{length}
 use Rattle.rows.specs.Memory.{Memory, rowWidth, spanWidth, traitWidth, faulty, loanFault, faultOf}
-use Rattle.format.proofs.Tested.{neither}
+use Rattle.format.proofs.Tests.{neither}
 
 -- entries of each loan
 pub record Lent (m : Memory) : Type 0 where

@@ -18,43 +18,27 @@ use Rattle.format.specs.Reading.{ResultOf, bind, _>>=_, _>>_, ret, Reade
 use Rattle.format.specs.Reading as our
 use Rattle.format.specs.Standard as std
 use Rattle.format.specs.Standard.{Tables, Std, Tree, nil, cons, Pairs, noPairs, pair, noEntries, entry, count, countPairs, countEntries}
+use Rattle.format.proofs.Lists.{Kept}
+use Rattle.format.proofs.Memories.{withRows}
+use Rattle.format.proofs.Ground.{Land, at, Ext, ext-same, ext-trans, ext-put, ext-kept, landOf, landTo}
 use Rattle.format.proofs.Alike.{Left, Agree, fine, then, made, weaken, flat}
-use Rattle.format.proofs.Rep.{Land, col, Text, RepT, RepP, RepE, Rep, Ext, done-ext, text-ext, rep-ext}
-use Rattle.format.proofs.Tables.{Kept, part-kept, Names, names-ext, landOf, Sim}
-use Rattle.format.proofs.Changes.{withRows, ext-put}
+use Rattle.format.proofs.Rep.{Text, RepT, RepP, RepE, Rep, text-ext, rep-ext}
+use Rattle.format.proofs.Tables.{Names, names-ext, Sim}
 use Rattle.format.proofs.Stage.{Keep, Val, Stage, open-row, stage-put, stage-keep}
 use Rattle.format.proofs.Texts.{limit, text-then, text-size}
 use Rattle.format.proofs.Naming.{lasting, held, nothing}
 
 -- ---- what is finished stays
 
-pub ext-trans : {L L′ L″ : Land} → Ext L L′ → Ext L′ L″ → Ext L L″
-ext-trans {L} {L′} {L″} x y =
-    let a = x .up in
-    let b = y .up in
-    let d = x .fill in
-    let e = y .fill in
-    record {
-      up = omega arith;
-      cols = λ r j h l. y .cols r j (done-ext x r h) l ∙ x .cols r j h l;
-      fill = omega arith;
-      texts = λ b z l. y .texts b z (omega arith) ∙ x .texts b z l;
-    }
-
 pub keep-ext : {m : Memory} {c : Cursor} {s : Tables} {m′ : Memory} {c′ : Cursor} {s′ : Tables} → Sim (c .store) m c s → Sim (c′ .store) m′ c′ s′
-    → Keep (c .store) m c m′ c′ → Ext (landOf (c .store) m c) (landOf (c′ .store) m′ c′)
+    → Keep (c .store) m c m′ c′ → Ext (landOf m c) (landOf m′ c′)
 keep-ext {m} {c} {s} {m′} {c′} x y k =
     let a = k .storeUp in
     let f = y .storeIn in
-    record {
-      up = k .rowsUp;
-      cols = λ r j h l. (let d = h .0 in let e = h .1 in k .rows (r * 12 + j) (omega arith));
-      fill = a;
-      texts = λ b z l. part-kept (c .store) (m .store) (m′ .store) b z (k .store) (x .storeIn) (omega arith) l;
-    }
+    ext-kept (k .rowsUp) (k .rows) a (k .store) (x .storeIn) (omega arith)
 
 -- a value that stands in row k, and ends at row n, later
-later : {L L′ : Land} (t : Tree) (k n : ℕ) → Ext L L′ → Rep t L k → col L k colEnd ≡ n → Rep t L′ k × (col L′ k colEnd ≡ n)
+later : {L L′ : Land} (t : Tree) (k n : ℕ) → Ext L L′ → Rep t L k → at L k colEnd ≡ n → Rep t L′ k × (at L′ k colEnd ≡ n)
 later t k n x h e = (rep-ext x t k h, x .cols k 11 (h .0) (omega arith) ∙ e)
 
 -- ---- counting
@@ -68,30 +52,27 @@ stage-used {c₀ = c₀} {m = m} {c = c} x = let a = x .sim .rowsIn in
 module _ {whole : List ℕ} {A B : Type 0} {Q : A → Memory → Cursor → B → Tables → Type 0} {o : Bool} {m₀ : Memory} {c₀ : Cursor} (cs : List ℕ) where
   pub count-then : (j done u : ℕ) (m : Memory) (c : Cursor) (s : Tables) (bs : List ℕ) (f : Unit → Reader A) {y : ResultOf Tables ℕ B}
       → Stage o m₀ c₀ (set cs j done) u m c s → j < 11 → done < messageLimit
-      → ((R : List ℕ) → Stage o m₀ c₀ (set cs j (suc done)) u (withRows m R) c s → Ext (landOf u m c) (landOf u (withRows m R) c)
+      → ((R : List ℕ) → Stage o m₀ c₀ (set cs j (suc done)) u (withRows m R) c s → Ext (landTo u m c) (landTo u (withRows m R) c)
       → Agree whole Q (f tt (withRows m R) c bs) y) → Agree whole Q (bind (decided (onRows (counted (c₀ .rows) j done) m c) m bs) f) y
   unfolding counted
   count-then j done u m c s bs f x h l k =
       let e : set (set cs j done) j (done + 1) ≡ set cs j (suc done) = rw (set-set, add-one) in
       let x₁ = stage-put x j (done + 1) h in
-      rw (lt-leb messageLimit done l, stage-used x) (k _ (rw e at x₁) (ext-put (x .sim) (c₀ .rows) j (done + 1) (open-row x) (omega arith)))
+      rw (lt-leb messageLimit done l, stage-used x) (k _ (rw e at x₁) (ext-put (landTo u m c) (c₀ .rows) j (done + 1) (open-row x) (omega arith)))
 
 -- ---- what a loop leaves
 
 pub record Loop (m₀ : Memory) (c₀ : Cursor) (cs : List ℕ) (P : Land → ℕ → ℕ → Type 0) (m : Memory) (c : Cursor) (m′ : Memory) (c′ : Cursor)
     (s′ : Tables) : Type 0 where
   pub stage : Stage true m₀ c₀ cs (c′ .store) m′ c′ s′
-  pub ext : Ext (landOf (c .store) m c) (landOf (c′ .store) m′ c′)
-  pub kids : P (landOf (c′ .store) m′ c′) (c .rows) (c′ .rows)
+  pub ext : Ext (landOf m c) (landOf m′ c′)
+  pub kids : P (landOf m′ c′) (c .rows) (c′ .rows)
   pub up : c .at ≤ c′ .at
-
-ext-same : (L : Land) → Ext L L
-ext-same L = record { up = omega arith; cols = λ r j h l. refl; fill = omega arith; texts = λ b z l. refl }
 
 -- a pair: its key's text is where its row says
 pair-kids : (m : Memory) (c : Cursor) (sp : Span) (xs : List ℕ) → Text (m .store) (c .store) (sp .begin) (sp .size) xs
-    → (t : Tree) (ps : Pairs) (L : Land) (n e : ℕ) → Ext (landOf (c .store) m c) L → Rep t L (c .rows) → col L (c .rows) colEnd ≡ n
-    → col L (c .rows) colKeyBegin ≡ sp .begin → col L (c .rows) colKeySize ≡ sp .size → RepP ps L n e → RepP (pair xs t ps) L (c .rows) e
+    → (t : Tree) (ps : Pairs) (L : Land) (n e : ℕ) → Ext (landOf m c) L → Rep t L (c .rows) → at L (c .rows) colEnd ≡ n
+    → at L (c .rows) colKeyBegin ≡ sp .begin → at L (c .rows) colKeySize ≡ sp .size → RepP ps L n e → RepP (pair xs t ps) L (c .rows) e
 pair-kids m c sp xs w t ps L n e y r f k₂ k₃ q = (r, rw (k₂, k₃) (text-ext y (sp .begin) (sp .size) xs w), rw f q)
 
 module _ (whole : List ℕ) (octets : Bytes whole) (value : Values) (tree : Std Tree) (low : ℕ)
@@ -101,11 +82,11 @@ module _ (whole : List ℕ) (octets : Bytes whole) (value : Values) (tree : Std 
   one-value : {B : Type 0} (P : B → Land → ℕ → ℕ → Type 0) (size : B → ℕ) (make : Tree → B → B)
       → ((t : Tree) (b : B) → size (make t b) ≡ suc (size b))
       → (k : Key) (cs : List ℕ) (j done : ℕ) (m : Memory) (c : Cursor) (s : Tables) (bs : List ℕ) (more : Reader Unit) (others : Std B)
-      → ((t : Tree) (b : B) (L : Land) (n e : ℕ) → Ext (landOf (c .store) m c) L → Rep t L (c .rows) → col L (c .rows) colEnd ≡ n
-      → col L (c .rows) colKeyBegin ≡ k .begin → col L (c .rows) colKeySize ≡ k .size → P b L n e → P (make t b) L (c .rows) e)
+      → ((t : Tree) (b : B) (L : Land) (n e : ℕ) → Ext (landOf m c) L → Rep t L (c .rows) → at L (c .rows) colEnd ≡ n
+      → at L (c .rows) colKeyBegin ≡ k .begin → at L (c .rows) colKeySize ≡ k .size → P b L n e → P (make t b) L (c .rows) e)
       → Stage true m₀ c₀ (set cs j done) (c .store) m c s → j < 11 → done < c .at → low ≤ c .at → Left whole (c .at) bs
       → ((m₁ : Memory) (c₁ : Cursor) (s₁ : Tables) (bs : List ℕ) → Stage true m₀ c₀ (set cs j (suc done)) (c₁ .store) m₁ c₁ s₁
-      → Ext (landOf (c .store) m c) (landOf (c₁ .store) m₁ c₁) → c .names ≤ c₁ .names → Kept (c .names * 2) (m .names) (m₁ .names) → c .at < c₁ .at
+      → Ext (landOf m c) (landOf m₁ c₁) → c .names ≤ c₁ .names → Kept (c .names * 2) (m .names) (m₁ .names) → c .at < c₁ .at
       → Left whole (c₁ .at) bs → Agree whole (λ x m′ c′ b s′. Loop m₀ c₀ (set cs j (suc done + size b)) (P b) m₁ c₁ m′ c′ s′) (more m₁ c₁ bs)
       (others s₁ (c₁ .at) bs)) → Agree whole (λ x m′ c′ b s′. Loop m₀ c₀ (set cs j (done + size b)) (P b) m c m′ c′ s′)
       (bind (bind (value k m c bs) (λ x. by (onRows (counted (c₀ .rows) j done)))) (λ x. more))
@@ -127,7 +108,7 @@ module _ (whole : List ℕ) (octets : Bytes whole) (value : Values) (tree : Std 
       record {
         stage = rw e at (r .stage);
         ext = ext-trans e₁ e₃;
-        kids = kids t b (landOf (c₂ .store) m₂ c₂) (c₁ .rows) (c₂ .rows) (ext-trans e₁ e₃) (z .0) (z .1) k₂ k₃ (r .kids);
+        kids = kids t b (landOf m₂ c₂) (c₁ .rows) (c₂ .rows) (ext-trans e₁ e₃) (z .0) (z .1) k₂ k₃ (r .kids);
         up = omega arith;
       }))))
 
@@ -199,7 +180,7 @@ module _ (whole : List ℕ) (octets : Bytes whole) (value : Values) (tree : Std 
       (one-value RepP countPairs (pair y) (λ t ps. refl) (keyOf sp) cs j done m c s bs _ _ (pair-kids m c sp y (w .0)) x h a b l
       (λ m₁ c₁ s₁ bs x₁ f u v d l.
       sealed-alike ys first cs j (suc done) m₁ c₁ s₁ bs x₁ h (omega arith) (omega arith) l
-      (rw p (names-ext (landOf (c .store) m c) (landOf (c₁ .store) m₁ c₁) f (m .names) (m₁ .names) (c .names) v ys (suc (first + done))
+      (rw p (names-ext (landOf m c) (landOf m₁ c₁) f (m .names) (m₁ .names) (c .names) v ys (suc (first + done))
       (omega arith) (w .1)))
       (omega arith)))
 

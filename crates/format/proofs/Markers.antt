@@ -11,7 +11,7 @@ use Rattle.rows.specs.declared.Key.{Key}
 use Rattle.format.specs.Decide as decide
 use Rattle.format.specs.Decide.{four, eight, newRow, kindOf}
 use Rattle.format.specs.RowTest.{isObject}
-use Rattle.format.proofs.RowTests.{and-both}
+use Rattle.format.proofs.Tests.{both}
 
 -- a body of a kind
 pub data Opens : decide.Body → ℕ → Type 0 where
@@ -70,7 +70,7 @@ is-object ofObjects = refl
 is-object ofDictionary = refl
 
 pub body-high : {body : decide.Body} {q : ℕ} → Opens body q → 4 ≤ q
-body-high {q = q} t = let h = leb-true 7 q ((and-both (leb 7 q) (leb q 17) (is-object t)) .0) in omega arith
+body-high {q = q} t = let h = leb-true 7 q ((both (leb 7 q) (leb q 17) (is-object t)) .0) in omega arith
 
 -- the row of a value that does not end with its marker
 pub new-row : (b : ℕ) (k : Key) (row : ℕ) → 4 ≤ b → newRow b k row ≡ b ∷ k .mark ∷ k .begin ∷ k .size ∷ 0 ∷ 0 ∷ 0 ∷ 0 ∷ 0 ∷ 0 ∷ 0 ∷ 0 ∷ []

@@ -15,8 +15,11 @@ use Rattle.format.specs.Reading as our
 use Rattle.format.specs.Standard.{Tables, Tree, noTables, standard}
 use Rattle.format.specs.Unfold.{rowsIn, unfolded}
 use Rattle.format.specs.Unfold as flatly
+use Rattle.format.proofs.Tests.{clash}
+use Rattle.format.proofs.Lists.{Kept, part-kept}
+use Rattle.format.proofs.Ground.{landOf}
 use Rattle.format.proofs.Alike.{Agree, fine, both, ours}
-use Rattle.format.proofs.Tables.{Kept, part-kept, landOf, Sim}
+use Rattle.format.proofs.Tables.{Sim}
 use Rattle.format.proofs.Stage.{Val}
 use Rattle.format.proofs.Unfolding.{View, rep-unfolds}
 use Rattle.format.proofs.Values.{value-alike}
@@ -29,6 +32,12 @@ usedRows c m = take (c .rows * rowWidth) (m .rows)
 
 abbrev pub usedStore : Cursor → Memory → List ℕ
 usedStore c m = take (c .store) (m .store)
+
+pub used-many : (c : Cursor) (m : Memory) → c .rows * 12 ≤ length (m .rows) → rowsIn (usedRows c m) ≡ c .rows
+used-many c m h =
+    let e : length (usedRows c m) ≡ c .rows * 12 = length-take-le (c .rows * 12) (m .rows) h in
+    let q : rowsIn (usedRows c m) ≡ c .rows * 12 / 12 = ap (λ z. z / 12) e in
+    omega arith
 
 -- how a reading of bs and the standard's end
 pub data Accord (bs : List ℕ) : Ended → ResultOf Tables ℕ Tree → Type 0 where
@@ -64,11 +73,10 @@ read-alike m bs h =
 -- ---- its end
 
 view : {m : Memory} {c : Cursor} {s : Tables} → Sim (c .store) m c s → (B : List ℕ) → c .store ≤ length B → Kept (c .store) (m .store) B
-    → View (landOf (c .store) m c) (usedRows c m) B
+    → View (landOf m c) (usedRows c m) B
 unfolding flatly.col
 view {m} {c} {s} x B h k =
-    let e : length (usedRows c m) ≡ c .rows * 12 = length-take-le (c .rows * 12) (m .rows) (x .rowsIn) in
-    let n : rowsIn (usedRows c m) ≡ c .rows = (let q : rowsIn (usedRows c m) ≡ c .rows * 12 / 12 = ap (λ z. z / 12) e in omega arith) in
+    let n = used-many c m (x .rowsIn) in
     record {
       many = n;
       cols = λ r j l i. rw (n, lt-ltb r (c .rows) l) (getD-take (c .rows * 12) (m .rows) (r * 12 + j) 0 (omega arith));
@@ -81,10 +89,10 @@ accord m₀ bs x y (fine {m = m} {c = c} {b = t} {bs = rest} l v) =
     let s = v .sim in
     let i = s .storeIn in
     reads (sym (take-append-drop (c .at) bs) ∙ ap (λ z. take (c .at) bs ++ z) (sym (l .rest))) (l .within)
-    (rep-unfolds (landOf (c .store) m c) (usedRows c m) (usedStore c m)
+    (rep-unfolds (landOf m c) (usedRows c m) (usedStore c m)
     (view s (usedStore c m) (let e = length-take-le (c .store) (m .store) i in omega arith) (λ j h. getD-take (c .store) (m .store) j 0 h)) t 0
     (v .rep))
-    (rep-unfolds (landOf (c .store) m c) (usedRows c m) (m .store) (view s (m .store) i (λ j h. refl)) t 0 (v .rep))
+    (rep-unfolds (landOf m c) (usedRows c m) (m .store) (view s (m .store) i (λ j h. refl)) t 0 (v .rep))
 accord m₀ bs x y (both h i) = refuses h i
 accord m₀ bs x y (ours h i) = limited h i
 
@@ -101,7 +109,7 @@ unfolding reading
 never-lost m bs h n told place m′ = by-fault (faultOf m)
   where
     met : (e : Ended) (y : ResultOf Tables ℕ Tree) → Accord bs e y → e ≡ refused n told place m′ → n ≢ 12
-    met e y (reads p q r s) d = absurd (let z : _≡_ {A = ℕ} 0 1 = cc in omega arith)
+    met e y (reads p q r s) d = clash cc
     met e y (refuses {n = k} p q) d = let z : k ≡ n = cc in λ w. omega arith
     met e y (limited {n = k} p q) d = let z : k ≡ n = cc in λ w. omega arith
 
@@ -146,8 +154,8 @@ module _ (m : Memory) (bs : List ℕ) (octets : Bytes bs) (accepted : faultOf m 
             unfolds = rw (f, g) at r;
             unfoldsWhole = rw (f, g) at w;
           }
-      met e y (refuses p q) d = absurd (let z : _≡_ {A = ℕ} 0 1 = cc in omega arith)
-      met e y (limited p q) d = absurd (let z : _≡_ {A = ℕ} 0 1 = cc in omega arith)
+      met e y (refuses p q) d = clash cc
+      met e y (limited p q) d = clash cc
 
   -- what is refused, but by a limit or a loan, the standard refuses so
   pub refused-means : (n told place : ℕ) (m′ : Memory) → reading m bs ≡ refused n told place m′ → n ≢ 9 → n ≢ 10 → n ≢ 11
@@ -156,7 +164,7 @@ module _ (m : Memory) (bs : List ℕ) (octets : Bytes bs) (accepted : faultOf m 
     where
       met : (e : Ended) (y : ResultOf Tables ℕ Tree) → Accord bs e y → e ≡ refused n told place m′ → n ≢ 9 → n ≢ 10 → n ≢ 11
           → (s : Tables) × (y ≡ bad n told place s)
-      met e y (reads p q r w) d a b c = absurd (let z : _≡_ {A = ℕ} 0 1 = cc in omega arith)
+      met e y (reads p q r w) d a b c = clash cc
       met e y (refuses {n = k} {told = u} {place = v} {s = s} p q) d a b c =
           let f : k ≡ n = cc in
           let g : u ≡ told = cc in

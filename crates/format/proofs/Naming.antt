@@ -19,10 +19,12 @@ use Rattle.format.specs.Reading.{ResultOf, bind, Reader, decided, plain}
 use Rattle.format.specs.Reading as our
 use Rattle.format.specs.Standard as std
 use Rattle.format.specs.Standard.{Tables, Traits, Std}
+use Rattle.format.proofs.Lists.{kept-sets, sets-at, part-kept}
+use Rattle.format.proofs.Memories.{withNames, withTraits}
 use Rattle.format.proofs.Alike.{Left, Agree, fine, both, made}
 use Rattle.format.proofs.Rep.{Text}
-use Rattle.format.proofs.Tables.{kept-sets, sets-at, part-kept, Names, TraitRep, noTraits, Sim}
-use Rattle.format.proofs.Changes.{withNames, withTraits, addTraits, sim-name, sim-trait}
+use Rattle.format.proofs.Tables.{Names, TraitRep, noTraits, Sim}
+use Rattle.format.proofs.Changes.{addTraits, sim-name, sim-trait}
 use Rattle.format.proofs.Stage.{Keep, keep-trans, Quiet, quiet-of, quiet-same, quiet-trans, Stage, stage-quiet, stage-keep}
 use Rattle.format.proofs.Texts.{limit, Lasting, Reserving, text-then}
 

@@ -17,7 +17,8 @@ use Rattle.format.specs.Step.{State, wait, over, none, run, end, begin}
 use Rattle.format.specs.Numbers.{Numbers, Held, held, lentOf, stateOf, numbered, memoryOf, afterStep, byteStep}
 use Rattle.format.specs.Answers.{Fed, fed, answerOf, answered, blank, beginCall, runHeld, costFrom, stateIn, takenBy, feedCall, endOf, endCall}
 use Rattle.format.specs.Answers.{Read, read, readOf, readCall}
-use Rattle.format.proofs.Feeding.{on-bool, feeding}
+use Rattle.format.proofs.Tests.{on-bool}
+use Rattle.format.proofs.Feeding.{feeding}
 use Rattle.format.proofs.Cuts.{joined}
 use Rattle.format.proofs.Along.{Good, waits, finishes, declines, takes}
 use Rattle.format.proofs.Shows.{Shows, shows-run, shows-begin, taken-run, memory-of}

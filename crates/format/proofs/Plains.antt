@@ -28,9 +28,10 @@ use Rattle.format.specs.Reading as our
 use Rattle.format.specs.Unfold.{part}
 use Rattle.format.specs.Standard as std
 use Rattle.format.specs.Standard.{Tables, Std, Tree, Plain, plain, integer, double, string, byteArray, date, xmlOf, vectorOf}
+use Rattle.format.proofs.Memories.{withRows}
 use Rattle.format.proofs.Alike.{Left, Agree, fine, both, then, flat, byte-then, word-then, number-then}
 use Rattle.format.proofs.Rep.{Face, leaf, flagOf, own-rep}
-use Rattle.format.proofs.Changes.{withRows, setObject, sim-reserve, sim-settle}
+use Rattle.format.proofs.Changes.{setObject, sim-reserve, sim-settle}
 use Rattle.format.proofs.Stage.{quiet-same, Val, Stage, stage-quiet, stage-at, stage-put, faceOf, slotOf, ends-own, ends-val}
 use Rattle.format.proofs.Texts.{limit, quiet-reserve, part-none, Lasting, chars-alike, Growing, fill-alike, Reserving, text-then}
 use Rattle.format.proofs.Loops.{stage-used}

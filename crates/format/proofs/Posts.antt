@@ -12,7 +12,7 @@ use Rattle.rows.specs.declared.Cursor.{Cursor}
 use Rattle.rows.specs.declared.Span.{Span}
 use Rattle.rows.specs.declared.Key.{Key}
 use Rattle.rows.specs.declared.Trait.{Trait}
-use Rattle.rows.specs.Memory.{Memory, cursor, messageLimit, span, keyOf, spanAt, spanUsed, cell, put, rowUsed, colKind, colBodyBegin, colBodySize}
+use Rattle.rows.specs.Memory.{Memory, messageLimit, span, keyOf, spanAt, spanUsed, cell, put, rowUsed, colKind, colBodyBegin, colBodySize}
 use Rattle.rows.specs.Memory.{colClassMark, colFlag, colNumber, colCount, colEnd}
 use Rattle.wire.specs.declared.Part.{Part}
 use Rattle.wire.specs.declared.Part.the-variants.{More, Whole, Astray}
@@ -25,7 +25,8 @@ use Rattle.format.specs.Decide.{Out, stop, give, lift, rowsTo, storeTo, 
 use Rattle.format.specs.Decide.{closed, numbered, dated, dateEnd, bodied, classed, flagged, counted, grown, Width, widthOf, oldText, reserved, stored}
 use Rattle.format.specs.Decide.{judged, textEnd, entered, referred, oldTrait, named, traitEnd, sealedKey, starred}
 use Rattle.format.specs.Reading.{ok, bad, bind, Result, Reader, decided, byte, u29, number, onPart}
-use Rattle.format.proofs.Feeding.{on-bool}
+use Rattle.format.proofs.Tests.{on-bool}
+use Rattle.format.proofs.Memories.{atTo, numbers}
 
 -- ---- results
 
@@ -183,7 +184,7 @@ module _ (c : Cursor) where
       gives (h (omega arith))))
 
   pub wp-trait-end : {Q : Unit {0} → List ℕ → Cursor → Type 0} (t : Trait) (U : List ℕ)
-      → (c .traits * 5 + 5 ≤ length U → Q tt (sets U (c .traits * 5) (t .begin ∷ t .size ∷ t .dynamic ∷ t .first ∷ t .count ∷ []))
+      → (c .traits * 5 + 5 ≤ length U → Q tt (sets U (c .traits * 5) (numbers t))
       (traitsTo c (c .traits + 1)))
       → Gives Q (traitEnd t U c)
   unfolding traitEnd
@@ -207,9 +208,6 @@ module _ (c : Cursor) where
       (λ e. rw e (gives (k (eqb-false (s .size) 1 e))))
 
 -- ---- bytes, words and numbers: the place alone changes
-
-abbrev pub atTo : Cursor → ℕ → Cursor
-atTo c n = cursor n (c .rows) (c .store) (c .strings) (c .objects) (c .traits) (c .names)
 
 module _ {Q : ℕ → Memory → Cursor → Type 0} (m : Memory) where
   pub wp-byte : (c : Cursor) (bs : List ℕ) → ((b : ℕ) → Q b m (atTo c (suc (c .at)))) → Post Q (byte m c bs)

@@ -9,29 +9,14 @@ use borrow.Author.Tests.{eqb-true}
 use lib.Dec.{eqb}
 use lib.ListN.{getD}
 use Rattle.rows.specs.Memory.{colKind, colKeyBegin, colKeySize, colBodyBegin, colBodySize, colClassMark, colFlag, colNumber, colCount, colCount2}
-use Rattle.rows.specs.Memory.{colEnd, cell}
+use Rattle.rows.specs.Memory.{colEnd}
 use Rattle.wire.specs.Sign.{ofColumn}
 use Rattle.format.specs.Unfold.{part}
 use Rattle.format.specs.Standard.{undefined, null, boolean, integer, double, string, xmlDocument, xml, byteArray, date, intVector, uintVector}
 use Rattle.format.specs.Standard.{doubleVector, Tree, plain, array, object, objectVector, dictionary, Trees, nil, cons, Pairs, noPairs, pair, Entries}
 use Rattle.format.specs.Standard.{noEntries, entry, count, countPairs, countEntries}
-
--- the rows, how many are used, the store, and how far it is settled
-pub record Land : Type 0 where
-  pub rows : List ℕ
-  pub used : ℕ
-  pub store : List ℕ
-  pub full : ℕ
-
-abbrev pub land : List ℕ → ℕ → List ℕ → ℕ → Land
-land R n B u = record { rows = R; used = n; store = B; full = u }
-
-abbrev pub col : Land → ℕ → ℕ → ℕ
-col L r j = cell (L .rows) r j
-
--- a row that ends where rows are used
-abbrev pub Done : Land → ℕ → Type 0
-Done L r = (r < col L r colEnd) × (col L r colEnd ≤ L .used)
+use Rattle.format.proofs.Tests.{clash}
+use Rattle.format.proofs.Ground.{Land, at, Done, Ext, done-ext}
 
 -- xs is the text of a span of the settled store
 abbrev pub Text : List ℕ → ℕ → ℕ → ℕ → List ℕ → Type 0
@@ -51,13 +36,13 @@ pub record Face : Type 0 where
 abbrev pub face : Land → ℕ → Face
 face L r =
     record {
-      kind = col L r colKind;
-      mark = col L r colClassMark;
-      flag = col L r colFlag;
-      number = col L r colNumber;
-      first = col L r colCount;
-      second = col L r colCount2;
-      body = part (L .store) (col L r colBodyBegin) (col L r colBodySize);
+      kind = at L r colKind;
+      mark = at L r colClassMark;
+      flag = at L r colFlag;
+      number = at L r colNumber;
+      first = at L r colCount;
+      second = at L r colCount2;
+      body = part (L .store) (at L r colBodyBegin) (at L r colBodySize);
     }
 
 abbrev pub flagOf : Face → Bool
@@ -89,42 +74,42 @@ Is (dictionary f es) F = (F .kind ≡ 17) × (flagOf F ≡ f) × (F .first ≡ c
 
 -- a finished row with its face settled
 abbrev pub Head : Land → ℕ → Type 0
-Head L r = (r < col L r colEnd) × (col L r colEnd ≤ L .used) × (col L r colBodyBegin + col L r colBodySize ≤ L .full)
+Head L r = (r < at L r colEnd) × (at L r colEnd ≤ L .used) × (at L r colBodyBegin + at L r colBodySize ≤ L .full)
 
 -- the row whose tree it is: a reference's is another, which ended before
 abbrev pub goal : Land → ℕ → ℕ
-goal L r = cond (eqb (col L r colKind) 18) (col L r colNumber) r
+goal L r = cond (eqb (at L r colKind) 18) (at L r colNumber) r
 
 pub data From (L : Land) (r g : ℕ) : Type 0 where
   itself : g ≡ r → From L r g
-  before : col L g colEnd ≤ r → From L r g
+  before : at L g colEnd ≤ r → From L r g
 
 abbrev mutual
   -- row r itself, no reference
   pub Own : Tree → Land → ℕ → Type 0
   Own (plain p) L r = Head L r × Is (plain p) (face L r)
-  Own (array ps ts) L r = Head L r × Is (array ps ts) (face L r) × ((e : ℕ) × RepP ps L (suc r) e × RepT ts L e (col L r colEnd))
-  Own (object x ps qs) L r = Head L r × Is (object x ps qs) (face L r) × ((e : ℕ) × RepP ps L (suc r) e × RepP qs L e (col L r colEnd))
-  Own (objectVector f x ts) L r = Head L r × Is (objectVector f x ts) (face L r) × RepT ts L (suc r) (col L r colEnd)
-  Own (dictionary f es) L r = Head L r × Is (dictionary f es) (face L r) × RepE es L (suc r) (col L r colEnd)
+  Own (array ps ts) L r = Head L r × Is (array ps ts) (face L r) × ((e : ℕ) × RepP ps L (suc r) e × RepT ts L e (at L r colEnd))
+  Own (object x ps qs) L r = Head L r × Is (object x ps qs) (face L r) × ((e : ℕ) × RepP ps L (suc r) e × RepP qs L e (at L r colEnd))
+  Own (objectVector f x ts) L r = Head L r × Is (objectVector f x ts) (face L r) × RepT ts L (suc r) (at L r colEnd)
+  Own (dictionary f es) L r = Head L r × Is (dictionary f es) (face L r) × RepE es L (suc r) (at L r colEnd)
 
   -- rows from k on, each from where the one before ends, up to row e
   pub RepT : Trees → Land → ℕ → ℕ → Type 0
   RepT nil L k e = k ≡ e
-  RepT (cons t ts) L k e = (Done L k × From L k (goal L k) × Own t L (goal L k)) × RepT ts L (col L k colEnd) e
+  RepT (cons t ts) L k e = (Done L k × From L k (goal L k) × Own t L (goal L k)) × RepT ts L (at L k colEnd) e
 
   pub RepP : Pairs → Land → ℕ → ℕ → Type 0
   RepP noPairs L k e = k ≡ e
   RepP (pair x t ps) L k e =
-      (Done L k × From L k (goal L k) × Own t L (goal L k)) × Text (L .store) (L .full) (col L k colKeyBegin) (col L k colKeySize) x
-      × RepP ps L (col L k colEnd) e
+      (Done L k × From L k (goal L k) × Own t L (goal L k)) × Text (L .store) (L .full) (at L k colKeyBegin) (at L k colKeySize) x
+      × RepP ps L (at L k colEnd) e
 
   pub RepE : Entries → Land → ℕ → ℕ → Type 0
   RepE noEntries L k e = k ≡ e
   RepE (entry a b es) L k e =
       (Done L k × From L k (goal L k) × Own a L (goal L k))
-      × (Done L (col L k colEnd) × From L (col L k colEnd) (goal L (col L k colEnd)) × Own b L (goal L (col L k colEnd)))
-      × RepE es L (col L (col L k colEnd) colEnd) e
+      × (Done L (at L k colEnd) × From L (at L k colEnd) (goal L (at L k colEnd)) × Own b L (goal L (at L k colEnd)))
+      × RepE es L (at L (at L k colEnd) colEnd) e
 
 abbrev pub Rep : Tree → Land → ℕ → Type 0
 Rep t L r = Done L r × From L r (goal L r) × Own t L (goal L r)
@@ -138,16 +123,16 @@ own-head (dictionary f es) L r h = h .0
 
 -- it is no reference
 pub own-goal : (t : Tree) (L : Land) (r : ℕ) → Own t L r → goal L r ≡ r
-own-goal t L r h = test (eqb (col L r colKind) 18) refl
+own-goal t L r h = test (eqb (at L r colKind) 18) refl
   where
-    no : (t : Tree) → col L r colKind ≡ 18 → Own t L r → ⊥
-    no (plain p) e h = let z : other ≡ plain p = rw e at (h .1) in let y : _≡_ {A = ℕ} 0 1 = cc in omega arith
+    no : (t : Tree) → at L r colKind ≡ 18 → Own t L r → ⊥
+    no (plain p) e h = let z : other ≡ plain p = rw e at (h .1) in clash cc
     no (array ps ts) e h = let z = h .1 .0 in omega arith
     no (object x ps qs) e h = let z = h .1 .0 in omega arith
     no (objectVector f x ts) e h = let z = h .1 .0 in omega arith
     no (dictionary f es) e h = let z = h .1 .0 in omega arith
 
-    test : (b : Bool) → eqb (col L r colKind) 18 ≡ b → cond b (col L r colNumber) r ≡ r
+    test : (b : Bool) → eqb (at L r colKind) 18 ≡ b → cond b (at L r colNumber) r ≡ r
     test false e = refl
     test true e = absurd (no t (eqb-true _ _ e) h)
 
@@ -156,22 +141,12 @@ own-rep t L r h = let g = own-goal t L r h in let d = own-head t L r h in ((d .0
 
 -- ---- it lasts
 
--- what is finished and settled in L is in L′
-pub record Ext (L L′ : Land) : Type 0 where
-  pub up : L .used ≤ L′ .used
-  pub cols : (r j : ℕ) → Done L r → j < 12 → col L′ r j ≡ col L r j
-  pub fill : L .full ≤ L′ .full
-  pub texts : (b z : ℕ) → b + z ≤ L .full → part (L′ .store) b z ≡ part (L .store) b z
-
 module _ {L L′ : Land} (x : Ext L L′) where
-  pub done-ext : (r : ℕ) → Done L r → Done L′ r
-  done-ext r h = let u = x .up in rw (x .cols r 11 h (omega arith)) (h .0, omega arith)
-
   pub text-ext : (b z : ℕ) (xs : List ℕ) → Text (L .store) (L .full) b z xs → Text (L′ .store) (L′ .full) b z xs
-  text-ext b z xs h = let u = x .fill in (x .texts b z (h .1) ∙ h .0, omega arith)
+  text-ext b z xs h = let u = x .fill in (x .parts b z (h .1) ∙ h .0, omega arith)
 
-  key-ext : (r : ℕ) (xs : List ℕ) → Done L r → Text (L .store) (L .full) (col L r colKeyBegin) (col L r colKeySize) xs
-      → Text (L′ .store) (L′ .full) (col L′ r colKeyBegin) (col L′ r colKeySize) xs
+  key-ext : (r : ℕ) (xs : List ℕ) → Done L r → Text (L .store) (L .full) (at L r colKeyBegin) (at L r colKeySize) xs
+      → Text (L′ .store) (L′ .full) (at L′ r colKeyBegin) (at L′ r colKeySize) xs
   key-ext r xs d h = rw (x .cols r 2 d (omega arith), x .cols r 3 d (omega arith)) (text-ext _ _ xs h)
 
   head-ext : (r : ℕ) → Head L r → Head L′ r
@@ -193,7 +168,7 @@ module _ {L L′ : Land} (x : Ext L L′) where
         x .cols r 10 d (omega arith),
         x .cols r 4 d (omega arith),
         x .cols r 5 d (omega arith),
-        x .texts _ _ (h .2),
+        x .parts _ _ (h .2),
       )
 
   goal-ext : (r : ℕ) → Done L r → goal L′ r ≡ goal L r
@@ -210,7 +185,7 @@ module _ {L L′ : Land} (x : Ext L L′) where
   rep-with t k h o =
       let g = goal-ext k (h .0) in
       let d = own-head t L (goal L k) (h .2) in
-      (done-ext k (h .0), rw g (from-ext k (goal L k) (d .0, d .1) (h .1)), rw g o)
+      (done-ext x k (h .0), rw g (from-ext k (goal L k) (d .0, d .1) (h .1)), rw g o)
 
   mutual
     pub own-ext : (t : Tree) (r : ℕ) → Own t L r → Own t L′ r
@@ -221,7 +196,7 @@ module _ {L L′ : Land} (x : Ext L L′) where
       (
         h .2 .0,
         repp-ext ps (suc r) (h .2 .0) (h .2 .1),
-        rw (x .cols r 11 (h .0 .0, h .0 .1) (omega arith)) (rept-ext ts (h .2 .0) (col L r colEnd) (h .2 .2)),
+        rw (x .cols r 11 (h .0 .0, h .0 .1) (omega arith)) (rept-ext ts (h .2 .0) (at L r colEnd) (h .2 .2)),
       ),
     )
     own-ext (object z ps qs) r h = (
@@ -230,40 +205,40 @@ module _ {L L′ : Land} (x : Ext L L′) where
       (
         h .2 .0,
         repp-ext ps (suc r) (h .2 .0) (h .2 .1),
-        rw (x .cols r 11 (h .0 .0, h .0 .1) (omega arith)) (repp-ext qs (h .2 .0) (col L r colEnd) (h .2 .2)),
+        rw (x .cols r 11 (h .0 .0, h .0 .1) (omega arith)) (repp-ext qs (h .2 .0) (at L r colEnd) (h .2 .2)),
       ),
     )
     own-ext (objectVector f z ts) r h = (
       head-ext r (h .0),
       is-ext (objectVector f z ts) r (h .0) (h .1),
-      rw (x .cols r 11 (h .0 .0, h .0 .1) (omega arith)) (rept-ext ts (suc r) (col L r colEnd) (h .2)),
+      rw (x .cols r 11 (h .0 .0, h .0 .1) (omega arith)) (rept-ext ts (suc r) (at L r colEnd) (h .2)),
     )
     own-ext (dictionary f es) r h = (
       head-ext r (h .0),
       is-ext (dictionary f es) r (h .0) (h .1),
-      rw (x .cols r 11 (h .0 .0, h .0 .1) (omega arith)) (repe-ext es (suc r) (col L r colEnd) (h .2)),
+      rw (x .cols r 11 (h .0 .0, h .0 .1) (omega arith)) (repe-ext es (suc r) (at L r colEnd) (h .2)),
     )
 
     pub rept-ext : (ts : Trees) (k e : ℕ) → RepT ts L k e → RepT ts L′ k e
     rept-ext nil k e h = h
     rept-ext (cons t ts) k e h =
-        (rep-with t k (h .0) (own-ext t (goal L k) (h .0 .2)), rw (x .cols k 11 (h .0 .0) (omega arith)) (rept-ext ts (col L k colEnd) e (h .1)))
+        (rep-with t k (h .0) (own-ext t (goal L k) (h .0 .2)), rw (x .cols k 11 (h .0 .0) (omega arith)) (rept-ext ts (at L k colEnd) e (h .1)))
 
     pub repp-ext : (ps : Pairs) (k e : ℕ) → RepP ps L k e → RepP ps L′ k e
     repp-ext noPairs k e h = h
     repp-ext (pair z t ps) k e h = (
       rep-with t k (h .0) (own-ext t (goal L k) (h .0 .2)),
       key-ext k z (h .0 .0) (h .1),
-      rw (x .cols k 11 (h .0 .0) (omega arith)) (repp-ext ps (col L k colEnd) e (h .2)),
+      rw (x .cols k 11 (h .0 .0) (omega arith)) (repp-ext ps (at L k colEnd) e (h .2)),
     )
 
     pub repe-ext : (es : Entries) (k e : ℕ) → RepE es L k e → RepE es L′ k e
     repe-ext noEntries k e h = h
     repe-ext (entry a b es) k e h = (
       rep-with a k (h .0) (own-ext a (goal L k) (h .0 .2)),
-      rw (x .cols k 11 (h .0 .0) (omega arith)) (rep-with b (col L k colEnd) (h .1) (own-ext b (goal L (col L k colEnd)) (h .1 .2))),
-      rw (x .cols k 11 (h .0 .0) (omega arith), x .cols (col L k colEnd) 11 (h .1 .0) (omega arith))
-          (repe-ext es (col L (col L k colEnd) colEnd) e (h .2)),
+      rw (x .cols k 11 (h .0 .0) (omega arith)) (rep-with b (at L k colEnd) (h .1) (own-ext b (goal L (at L k colEnd)) (h .1 .2))),
+      rw (x .cols k 11 (h .0 .0) (omega arith), x .cols (at L k colEnd) 11 (h .1 .0) (omega arith))
+          (repe-ext es (at L (at L k colEnd) colEnd) e (h .2)),
     )
 
   pub rep-ext : (t : Tree) (r : ℕ) → Rep t L r → Rep t L′ r
@@ -279,7 +254,7 @@ Kids (object x ps qs) L r e = (k : ℕ) × RepP ps L (suc r) k × RepP qs L k e
 Kids (objectVector f x ts) L r e = RepT ts L (suc r) e
 Kids (dictionary f es) L r e = RepE es L (suc r) e
 
-pub own-of : (t : Tree) (L : Land) (r : ℕ) → Head L r → Is t (face L r) → Kids t L r (col L r colEnd) → Own t L r
+pub own-of : (t : Tree) (L : Land) (r : ℕ) → Head L r → Is t (face L r) → Kids t L r (at L r colEnd) → Own t L r
 own-of (plain p) L r h i k = (h, i)
 own-of (array ps ts) L r h i k = (h, i, k)
 own-of (object x ps qs) L r h i k = (h, i, k)

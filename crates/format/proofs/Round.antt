@@ -20,13 +20,12 @@ use Rattle.format.specs.Standard.{dynamics, entries, members, objectOf, 
 use Rattle.format.specs.Standard.{count, countPairs, countEntries, sizeBytes, textBytes, nameBytes, flagByte, classBytes, traitWord}
 use Rattle.format.specs.Standard.{arrayHead, objectHead, vectorHead, dictionaryHead}
 use Rattle.format.specs.Standard.{encode, encodeTrees, encodePairs, encodeValues, encodeDynamic, encodeEntries}
+use Rattle.format.proofs.Tests.{flag-back}
 use Rattle.format.proofs.Fuel.{value-fuel, standard-fuel}
 use Rattle.format.proofs.Words.{dynamicOf, trait-shape, trait-below}
-use Rattle.format.proofs.Writable.{IsText, IsKey, IsType, IfGiven}
-use Rattle.format.proofs.Writable.{Writable, WritableTrees, WritablePairs, WritableMembers, WritableEntries}
+use Rattle.format.proofs.Writable.{IsText, IsKey, IsType, IfGiven, Writable, WritableTrees, WritablePairs, WritableMembers, WritableEntries}
 use Rattle.format.proofs.Back.{Reads, reads-ret, reads-bind, reads-last, reads-opened, reads-change, reads-byte, reads-word, reads-text}
-use Rattle.format.proofs.Back.{reads-empty}
-use Rattle.format.proofs.Back.{reads-marked, flagged, reads-sized, reads-plain, empty-text}
+use Rattle.format.proofs.Back.{reads-empty, reads-marked, reads-sized, reads-plain, empty-text}
 
 -- the fuel that a tree needs
 abbrev mutual
@@ -135,7 +134,7 @@ module _ (f d : ℕ) where
       regroup (0x10 ∷ (sizeBytes (count ts) ++ flagByte fixed ∷ (classBytes (0x2A ∷ []) class ++ encodeTrees ts))) (simp append-assoc)
       (reads-marked f d 0x10 refl (reads-sized (value f d) f 0x10 k.objects (count ts) l
       (reads-bind _ (reads-byte (flagByte fixed)) (reads-bind _ (reads-class (λ t h. h .text) (0x2A ∷ []) star-text class g)
-      (rw (flagged fixed, starred-class class g) (reads-last _ q reads-ret))))))
+      (rw (flag-back fixed, starred-class class g) (reads-last _ q reads-ret))))))
 
   reads-dictionary : (weak : Bool) (es : Entries) → countEntries es < 2 ^ 28
       → Reads (entries (value f d) (countEntries es)) (encodeEntries es) es

@@ -17,8 +17,9 @@ use Rattle.format.specs.Unfold.{rowsIn, col, part, after}
 use Rattle.format.specs.RowTest.{spanFits, markFits, columnsFit, signedFits, valueFits, children, closes, Given, keyless, gives, givenIn, given}
 use Rattle.format.specs.RowTest.{markOf, isFilled, wellFormed, numberWritable, bodyWritable, keyWritable, writable, Tested, fine, faulty, testFrom}
 use Rattle.format.specs.RowTest.{tested}
-use Rattle.format.proofs.Feeding.{on-bool}
-use Rattle.format.proofs.Lands.{Land, land, at, Done, Within, classless, class, Meets, bare, named, long, Marked, Run, ends, goes, undefined}
+use Rattle.format.proofs.Tests.{on-bool, both, or-true}
+use Rattle.format.proofs.Ground.{Land, land, at, Done}
+use Rattle.format.proofs.Lands.{Within, classless, class, Meets, bare, named, long, Marked, Run, ends, goes, undefined}
 use Rattle.format.proofs.Lands.{null, boolean, integer, double, date, string, xmlDocument, xml, ints, uints, doubles, Form, number, text}
 use Rattle.format.proofs.Lands.{bytes, raw, array, object, vector, dictionary, reference, Sound, run-up}
 
@@ -114,10 +115,6 @@ form-length (reference l d h o e) = refl
 alone : (cs : List ℕ) (j : ℕ) → length cs ≡ 12 → col cs 0 j ≡ getD cs j 0
 unfolding col
 alone cs j h = let e : 0 * 12 + j ≡ j = omega arith in rw (h, e)
-
-pub or-true : (b : Bool) → b || true ≡ true
-or-true true = refl
-or-true false = refl
 
 -- an integer of 29 bits has 32
 signed-more : (v : ℕ) → signedFits 28 v ≡ true → signedFits 31 v ≡ true
@@ -279,10 +276,6 @@ module _ (R B : List ℕ) (u : ℕ) where
           marked = rw (is 0 (omega arith), is 9 (omega arith)) (run-marked p);
         }
 
-pub and-both : (a b : Bool) → a && b ≡ true → (a ≡ true) × (b ≡ true)
-and-both true b e = (refl, e)
-and-both false b e = let z : false ≡ true = e in (cc, cc)
-
 -- ---- parents
 
 module _ (R : List ℕ) where
@@ -329,8 +322,8 @@ module _ (R : List ℕ) where
   unfolding closes after
   find stop zero k x h a b = let e = eqb-true k stop h in absurd (omega arith)
   find stop (suc n) k x h a b =
-      let p = and-both (ltb k (col R k colEnd) && leb (col R k colEnd) stop) (closes R stop (col R k colEnd) n) h in
-      let q = and-both (ltb k (col R k colEnd)) (leb (col R k colEnd) stop) (p .0) in
+      let p = both (ltb k (col R k colEnd) && leb (col R k colEnd) stop) (closes R stop (col R k colEnd) n) h in
+      let q = both (ltb k (col R k colEnd)) (leb (col R k colEnd) stop) (p .0) in
       let l = ltb-true k (col R k colEnd) (q .0) in
       elim (decLt x (col R k colEnd)) [
         | yes c ↦ record { number = 0; few = omega arith; behind = omega arith; below = a; inside = c }

@@ -18,7 +18,7 @@ use Rattle.format.specs.Step.{Mode, atMarker, atWord, atNumber, atFlag, 
 use Rattle.format.specs.Numbers.{countsFit, useFits, modeFits, depthFits}
 use Rattle.format.specs.Numbers.{Numbers, lentOf, sameLent, sound, soundStep, Held, held, stateOf, numbered, memoryOf, afterStep, stepped, byteStep}
 use Rattle.format.specs.Answers.{blank, runHeld, costFrom, stateIn, takenBy}
-use Rattle.format.proofs.Feeding.{on-bool}
+use Rattle.format.proofs.Tests.{on-bool, both, clash}
 use Rattle.format.proofs.Used.{Counts, UseIn, ModeIn}
 use Rattle.format.proofs.Kept.{Lends, Holds, faultIn}
 use Rattle.format.proofs.Along.{Good, waits, finishes, declines, Fits, lends-zeroed, good-step, takes, good-run, good-begin}
@@ -44,18 +44,10 @@ tests-eq a b = record { says = eq-eqb a b; said = eqb-true a b }
 
 tests-and : {t u : Bool} {P Q : Type 0} → Tests t P → Tests u Q → Tests (t && u) (P × Q)
 tests-and {t} {u} p q =
-    record { says = λ (a, b). rw (p .says a, q .says b); said = λ e. (p .said (and-left t u e), q .said (and-right t u e)) }
-  where
-    and-left : (a b : Bool) → a && b ≡ true → a ≡ true
-    and-left true b e = refl
-    and-left false b e = e
-
-    and-right : (a b : Bool) → a && b ≡ true → b ≡ true
-    and-right true b e = e
-    and-right false b e = cc
+    record { says = λ (a, b). rw (p .says a, q .says b); said = λ e. (let (a, b) = both t u e in (p .said a, q .said b)) }
 
 tests-never : Tests false ⊥
-tests-never = record { says = λ h. absurd h; said = λ e. let z : _≡_ {A = ℕ} 0 1 = cc in omega arith }
+tests-never = record { says = λ h. absurd h; said = λ e. clash cc }
 
 ruleset testing = (tests-le, tests-lt, tests-eq, tests-and)
 

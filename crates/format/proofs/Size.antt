@@ -22,7 +22,7 @@ use Rattle.format.specs.Standard.{count, countEntries, sizeBytes, nameBy
 use Rattle.format.specs.Standard.{arrayHead, objectHead, vectorHead, dictionaryHead}
 use Rattle.format.specs.Standard.{encode, encodeTrees, encodePairs, encodeValues, encodeDynamic, encodeEntries}
 use Rattle.format.specs.Holds.{Room, ofText, ofClass, ofPlain, ofTree, ofTrees, ofPairs, ofSealed, ofEntries, canHold}
-use Rattle.format.proofs.Tested.{both}
+use Rattle.format.proofs.Tests.{both}
 use Rattle.format.proofs.Loans.{lent}
 
 -- a row pays for a number's marker and bytes, and for a byte more: the size word of an empty key or name

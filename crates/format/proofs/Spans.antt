@@ -19,12 +19,9 @@ use Rattle.utf8.proofs.Fold.{fold-valid}
 use Rattle.format.specs.Decide.{onStore, stored}
 use Rattle.format.specs.Reading.{Reader, Result, decided, chars, fill, textOf, text, plain}
 use Rattle.format.specs.Unfold.{part}
-use Rattle.format.proofs.Stages.{Kept, kept-set, withRows}
-use Rattle.format.proofs.Posts.{Post, stops, gets, post-then, post-by, atTo, wp-byte, wp-word, wp-stored, wp-reserved, wp-old-text}
-use Rattle.format.proofs.Posts.{wp-text-end}
-
-abbrev pub withStore : Memory → List ℕ → Memory
-withStore m B = memory (m .rows) B (m .strings) (m .objects) (m .traits) (m .names)
+use Rattle.format.proofs.Lists.{Kept, kept-set}
+use Rattle.format.proofs.Memories.{withRows, atTo, withStore}
+use Rattle.format.proofs.Posts.{Post, stops, gets, post-then, post-by, wp-byte, wp-word, wp-stored, wp-reserved, wp-old-text, wp-text-end}
 
 -- a byte at place p of the store, and what is behind it
 part-cons : (B C : List ℕ) (p b z : ℕ) → p < length B → Kept (suc p) (set B p b) C → length C ≡ length B → part C p (suc z) ≡ b ∷ part C (suc p) z

@@ -6,7 +6,7 @@ use mathlib.Core.Logic.{_≢_}
 use mathlib.Core.Option.{Option, none, some}
 use Prim.Native.Nat.{ℕ, _+_, _*_, _<_, _≤_}
 use native.Mathlib.Omega.{arith}
-use native.Mathlib.Decide.{decLt, ℕ-discrete}
+use native.Mathlib.Decide.{decLt}
 use lib.ListN.{length, getD, set, length-set}
 use lib.Seq.{getD-set-same, getD-set-other}
 use Rattle.rows.specs.declared.Cursor.{Cursor}
@@ -15,10 +15,12 @@ use Rattle.rows.specs.Memory.{Memory, memory, cursor, messageLimit, cell, put, 
 use Rattle.format.specs.Decide.{objectsTo}
 use Rattle.format.specs.Unfold.{part}
 use Rattle.format.specs.Standard.{Tree, Tables}
-use Rattle.format.proofs.Alike.{atTo}
-use Rattle.format.proofs.Rep.{Land, Face, face, Is, Own, Rep, own-head, Kids, own-of, kids-ext}
-use Rattle.format.proofs.Tables.{Kept, kept-set, Entry, landOf, Sim}
-use Rattle.format.proofs.Changes.{withRows, withObjects, addObject, setObject, sim-at, sim-put, ext-put, sim-object, sim-close}
+use Rattle.format.proofs.Lists.{Kept, kept-set}
+use Rattle.format.proofs.Memories.{atTo, withRows, withObjects}
+use Rattle.format.proofs.Ground.{Land, ext-put, cell-put, landOf, landTo}
+use Rattle.format.proofs.Rep.{Face, face, Is, Own, Rep, own-head, Kids, own-of, kids-ext}
+use Rattle.format.proofs.Tables.{Entry, Sim}
+use Rattle.format.proofs.Changes.{addObject, setObject, sim-at, sim-put, sim-object, sim-close}
 
 -- ---- what stays
 
@@ -122,7 +124,7 @@ quiet-trans l x y =
 pub record Val (m : Memory) (c : Cursor) (k : Key) (x : Unit {0}) (m′ : Memory) (c′ : Cursor) (t : Tree) (s′ : Tables) : Type 0 where
   pub sim : Sim (c′ .store) m′ c′ s′
   pub keep : Keep (c .store) m c m′ c′
-  pub rep : Rep t (landOf (c′ .store) m′ c′) (c .rows)
+  pub rep : Rep t (landOf m′ c′) (c .rows)
   pub fin : cell (m′ .rows) (c .rows) colEnd ≡ c′ .rows
   pub keyBegin : cell (m′ .rows) (c .rows) 2 ≡ k .begin
   pub keySize : cell (m′ .rows) (c .rows) 3 ≡ k .size
@@ -152,9 +154,9 @@ pub objects-below : {u : ℕ} {m : Memory} {c : Cursor} {s : Tables} → Sim u m
     → (getD (m .objects) i 0 < c .rows) × (cell (m .rows) (getD (m .objects) i 0) colEnd ≤ c .rows)
 objects-below {u} {m} {c} {s} x i l = entry (getD (m .objects) i 0) (getD (s .objects) i none) (x .objects .each i l)
   where
-    entry : (r : ℕ) (t : Option Tree) → Entry (landOf u m c) r t → (r < c .rows) × (cell (m .rows) r colEnd ≤ c .rows)
+    entry : (r : ℕ) (t : Option Tree) → Entry (landTo u m c) r t → (r < c .rows) × (cell (m .rows) r colEnd ≤ c .rows)
     entry r none h = let e = h .1 in (h .0, omega arith)
-    entry r (some t) h = let d = own-head t (landOf u m c) r h in let a = d .0 in let b = d .1 in (omega arith, b)
+    entry r (some t) h = let d = own-head t (landTo u m c) r h in let a = d .0 in let b = d .1 in (omega arith, b)
 
 module _ {m₀ : Memory} {c₀ : Cursor} {cs : List ℕ} {u : ℕ} {m : Memory} {c : Cursor} {s : Tables} where
   slot-move : (o : Bool) → Stage o m₀ c₀ cs u m c s → {v : ℕ} {m′ : Memory} {c′ : Cursor} → Keep v m c m′ c′ → c′ .objects ≡ c .objects
@@ -200,13 +202,7 @@ module _ {m₀ : Memory} {c₀ : Cursor} {cs : List ℕ} {u : ℕ} {m : Memory} 
           keep = keep-rows _ (kept-set (c₀ .rows * 12) (c₀ .rows * 12 + j) v (m .rows) (omega arith)) (x .keep);
           high = x .high;
           newer = x .newer;
-          row = λ i l. elim (ℕ-discrete i j) [
-            | yes q ↦
-                (let a : c₀ .rows * 12 + j < length (m .rows) = (let b = x .newer in let d = x .sim .rowsIn in omega arith) in
-                let b : j < length cs = (let d = x .long in omega arith) in
-                rw (q, getD-set-same, getD-set-same))
-            | no q ↦ (let a : c₀ .rows * 12 + i ≢ c₀ .rows * 12 + j = omega arith in rw (getD-set-other, getD-set-other) (x .row i l))
-          ];
+          row = cell-put (m .rows) cs (c₀ .rows) j v (x .long) (let b = x .newer in let d = x .sim .rowsIn in omega arith) (x .row);
           long = rw length-set (x .long);
           unended = rw getD-set-other (x .unended);
           below = x .below;
@@ -280,10 +276,10 @@ module _ {o : Bool} {m₀ : Memory} {c₀ : Cursor} {cs : List ℕ} {m : Memory}
   ends-row j l = let a : c₀ .rows * 12 + j ≢ c₀ .rows * 12 + 11 = omega arith in rw getD-set-other (x .row j (omega arith))
 
   -- its own tree, from its columns and what was read after it
-  pub ends-own : (t : Tree) → Is t (faceOf cs (m .store)) → getD cs 4 0 + getD cs 5 0 ≤ c .store → Kids t (landOf (c .store) m c) (c₀ .rows) (c .rows)
-      → Own t (landOf (c .store) (withRows m (put (m .rows) (c₀ .rows) colEnd (c .rows))) c) (c₀ .rows)
+  pub ends-own : (t : Tree) → Is t (faceOf cs (m .store)) → getD cs 4 0 + getD cs 5 0 ≤ c .store → Kids t (landOf m c) (c₀ .rows) (c .rows)
+      → Own t (landOf (withRows m (put (m .rows) (c₀ .rows) colEnd (c .rows))) c) (c₀ .rows)
   ends-own t i b k =
-      let L : Land = landOf (c .store) (withRows m (put (m .rows) (c₀ .rows) colEnd (c .rows))) c in
+      let L : Land = landOf (withRows m (put (m .rows) (c₀ .rows) colEnd (c .rows))) c in
       let n = x .newer in
       let f : face L (c₀ .rows) ≡ faceOf cs (m .store) =
       rw (
@@ -298,12 +294,12 @@ module _ {o : Bool} {m₀ : Memory} {c₀ : Cursor} {cs : List ℕ} {m : Memory}
         ends-row 5 (omega arith),
       ) in
       own-of t L (c₀ .rows) (rw (ends-col, ends-row 4 (omega arith), ends-row 5 (omega arith)) (n, omega arith, b)) (subst (Is t) (sym f) i)
-      (rw ends-col (kids-ext (ext-put (x .sim) (c₀ .rows) colEnd (c .rows) (open-row x) (omega arith)) t (c₀ .rows) (c .rows) k))
+      (rw ends-col (kids-ext (ext-put (landOf m c) (c₀ .rows) colEnd (c .rows) (open-row x) (omega arith)) t (c₀ .rows) (c .rows) k))
 
   -- with its tree it is a value read alike
   pub ends-val : (k : Key) (t : Tree) → getD cs 2 0 ≡ k .begin → getD cs 3 0 ≡ k .size → c₀ .at < c .at
-      → Rep t (landOf (c .store) (withRows m (put (m .rows) (c₀ .rows) colEnd (c .rows))) c) (c₀ .rows)
-      → (o ≡ true → Own t (landOf (c .store) (withRows m (put (m .rows) (c₀ .rows) colEnd (c .rows))) c) (c₀ .rows))
+      → Rep t (landOf (withRows m (put (m .rows) (c₀ .rows) colEnd (c .rows))) c) (c₀ .rows)
+      → (o ≡ true → Own t (landOf (withRows m (put (m .rows) (c₀ .rows) colEnd (c .rows))) c) (c₀ .rows))
       → Val m₀ c₀ k tt (withRows m (put (m .rows) (c₀ .rows) colEnd (c .rows))) c t (setObject (slotOf o c₀ c) t s)
   ends-val k t b z l r own =
       record {
@@ -317,7 +313,7 @@ module _ {o : Bool} {m₀ : Memory} {c₀ : Cursor} {cs : List ℕ} {m : Memory}
       }
     where
       close : (o : Bool) → Stage o m₀ c₀ cs (c .store) m c s
-          → (o ≡ true → Own t (landOf (c .store) (withRows m (put (m .rows) (c₀ .rows) colEnd (c .rows))) c) (c₀ .rows))
+          → (o ≡ true → Own t (landOf (withRows m (put (m .rows) (c₀ .rows) colEnd (c .rows))) c) (c₀ .rows))
           → Sim (c .store) (withRows m (put (m .rows) (c₀ .rows) colEnd (c .rows))) c (setObject (slotOf o c₀ c) t s)
       close false x own =
           sim-close (x .sim) (c₀ .rows) (c .objects) t (open-row x)

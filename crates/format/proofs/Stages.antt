@@ -6,44 +6,17 @@ use mathlib.Core.Logic.{_≢_}
 use Prim.Native.Nat.{ℕ, _+_, _*_, _<_, _≤_}
 use native.Mathlib.Omega.{arith}
 use native.Mathlib.Decide.{decLt, ℕ-discrete}
-use lib.ListN.{length, getD, take, drop, set, length-take, length-drop, length-set}
-use lib.Seq.{sets, length-sets, getD-set-same, getD-set-other, getD-take, getD-drop, ext-getD}
+use lib.ListN.{length, getD, set, length-set}
+use lib.Seq.{sets, length-sets, getD-set-same, getD-set-other}
 use Rattle.rows.specs.declared.Cursor.{Cursor}
 use Rattle.rows.specs.declared.Key.{Key}
 use Rattle.rows.specs.Memory.{Memory, memory, spanAt, cell, put, colKind, colEnd}
 use Rattle.format.specs.Decide.{rowsTo, objectsTo, traitAt, classOf}
-use Rattle.format.specs.Unfold.{part}
 use Rattle.format.specs.RowTest.{isObject, Given}
-use Rattle.format.proofs.States.{sets-before, sets-in}
-use Rattle.format.proofs.Lands.{Land, land, at, Done, Valid, Meets, Marked, Form, Sound, Ext, form-ext, bare, named, long, sound-ext}
-
--- ---- lists with some places set
-
--- the places below u stay
-abbrev pub Kept : ℕ → List ℕ → List ℕ → Type 0
-Kept u l l′ = (i : ℕ) → i < u → getD l′ i 0 ≡ getD l i 0
-
-pub kept-set : (u i v : ℕ) (l : List ℕ) → u ≤ i → Kept u l (set l i v)
-kept-set u i v l h j k = let d : j ≢ i = omega arith in simp getD-set-other
-
-pub kept-sets : (u i : ℕ) (vs l : List ℕ) → u ≤ i → Kept u l (sets l i vs)
-kept-sets u i vs l h j k = sets-before vs l i j (omega arith)
-
--- a part of the places that stay
-pub part-kept : (u : ℕ) (B C : List ℕ) (b z : ℕ) → Kept u B C → u ≤ length B → u ≤ length C → b + z ≤ u → part C b z ≡ part B b z
-unfolding part
-part-kept u B C b z h f g k =
-    ext-getD 0 (take z (drop b C)) (take z (drop b B)) (simp (length-take, length-drop) (omega arith)) (λ i l.
-    let j : i < z = (let q = l in omega (arith, length-take z (drop b C))) in
-    rw (getD-take z (drop b C) i 0 j, getD-take z (drop b B) i 0 j, getD-drop b C i 0, getD-drop b B i 0) (h (b + i) (omega arith)))
-
--- ---- memories with one loan changed
-
-abbrev pub withRows : Memory → List ℕ → Memory
-withRows m R = memory R (m .store) (m .strings) (m .objects) (m .traits) (m .names)
-
-abbrev pub landOf : Memory → Cursor → Land
-landOf m c = land (m .rows) (c .rows) (m .store) (c .store)
+use Rattle.format.proofs.Lists.{sets-in, Kept, kept-set, kept-sets, last-or}
+use Rattle.format.proofs.Memories.{withRows}
+use Rattle.format.proofs.Ground.{Land, land, at, Done, Ext, ext-kept, ext-put, cell-put, landOf}
+use Rattle.format.proofs.Lands.{Valid, Meets, Marked, Form, Sound, form-ext, bare, named, long, sound-ext}
 
 -- ---- what holds of the loans
 
@@ -91,12 +64,7 @@ keep-trans x y =
 pub keep-ext : {m m′ : Memory} {c c′ : Cursor} → c .store ≤ length (m .store) → Keep m c m′ c′ → Ext (landOf m c) (landOf m′ c′)
 keep-ext {m} {m′} {c} {c′} s k =
     let l = k .long in
-    record {
-      up = k .rowsUp;
-      cols = λ i j d h. (let a = d .0 in let b = d .1 in k .rows (i * 12 + j) (omega arith));
-      fill = k .storeUp;
-      parts = λ b z h. part-kept (c .store) (m .store) (m′ .store) b z (k .store) s (omega arith) h;
-    }
+    ext-kept (k .rowsUp) (k .rows) (k .storeUp) (k .store) s (omega arith)
 
 -- ---- within a value
 
@@ -158,19 +126,6 @@ ok-close {m} {c} x r l =
           });
     }
 
--- one of a row that is open
-ext-put : (m : Memory) (c : Cursor) (r j v : ℕ) → cell (m .rows) r colEnd ≡ 0 → j < 12 → Ext (landOf m c) (landOf (withRows m (put (m .rows) r j v)) c)
-ext-put m c r j v o w =
-    record {
-      up = omega arith;
-      cols = λ q i d l.
-          (let f : q ≢ r = λ e. (let z : q < cell (m .rows) r colEnd = rw (← e) (d .0) in absurd (omega arith)) in
-          let g : q * 12 + i ≢ r * 12 + j = omega arith in
-          simp getD-set-other);
-      fill = omega arith;
-      parts = λ b z l. refl;
-    }
-
 module _ {m₀ : Memory} {c₀ : Cursor} {cs : List ℕ} {m : Memory} {c : Cursor} (x : Stage m₀ c₀ cs m c) where
   pub open-row : cell (m .rows) (c₀ .rows) colEnd ≡ 0
   open-row = x .row 11 (omega arith) ∙ x .unended
@@ -187,17 +142,10 @@ module _ {m₀ : Memory} {c₀ : Cursor} {cs : List ℕ} {m : Memory} {c : Curso
       }
 
   pub row-put : (j v i : ℕ) → i < 12 → cell (put (m .rows) (c₀ .rows) j v) (c₀ .rows) i ≡ getD (set cs j v) i 0
-  row-put j v i l = elim (ℕ-discrete i j) [
-    | yes q ↦
-        (let a : c₀ .rows * 12 + j < length (m .rows) = (let b = x .newer in let d = x .ok .rowsIn in omega arith) in
-        let b : j < length cs = (let d = x .long in omega arith) in
-        rw (q, getD-set-same (m .rows) (c₀ .rows * 12 + j) v 0, getD-set-same cs j v 0))
-    | no q ↦ (let a : c₀ .rows * 12 + i ≢ c₀ .rows * 12 + j = omega arith in rw
-        (getD-set-other (m .rows) (c₀ .rows * 12 + j) (c₀ .rows * 12 + i) v 0, getD-set-other cs j i v 0) (x .row i l))
-  ]
+  row-put j v = cell-put (m .rows) cs (c₀ .rows) j v (x .long) (let b = x .newer in let d = x .ok .rowsIn in omega arith) (x .row)
 
   pub stage-ext : (j v : ℕ) → j < 12 → Ext (landOf m c) (landOf (withRows m (put (m .rows) (c₀ .rows) j v)) c)
-  stage-ext j v h = ext-put m c (c₀ .rows) j v open-row h
+  stage-ext j v h = ext-put (landOf m c) (c₀ .rows) j v open-row h
 
   -- a column of its row; its kind, where it is no object
   pub stage-set : (j v : ℕ) → ((i : ℕ) → i < c .objects → getD (m .objects) i 0 * 12 + 0 ≢ c₀ .rows * 12 + j) → j < 11
@@ -247,12 +195,9 @@ module _ {m₀ : Memory} {c₀ : Cursor} {cs : List ℕ} {m : Memory} {c : Curso
           strings = y .strings;
           names = y .names;
           traits = y .traits;
-          objects = λ i h. elim (decLt i (c .objects)) [
-            | yes q ↦ rw (kept-set (c .objects) (c .objects) (c₀ .rows) (m .objects) (omega arith) i q) (y .objects i q)
-            | no q ↦
-                (let e : i ≡ c .objects = omega arith in
-                rw (e, getD-set-same) (record { below = x .newer; kind = rw (x .row 0 (omega arith)) o; ending = still open-row }))
-          ];
+          objects = λ i h. last-or (c .objects) i (λ i. Entry (landOf m c) (getD (set (m .objects) (c .objects) (c₀ .rows)) i 0))
+              (λ q. rw (kept-set (c .objects) (c .objects) (c₀ .rows) (m .objects) (omega arith) i q) (y .objects i q))
+              (rw getD-set-same (record { below = x .newer; kind = rw (x .row 0 (omega arith)) o; ending = still open-row })) h;
         };
         keep = record { rowsUp = k .rowsUp; rows = k .rows; storeUp = k .storeUp; store = k .store; long = k .long };
         newer = x .newer;

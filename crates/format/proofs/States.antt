@@ -1,13 +1,12 @@
 -- A state as plain numbers is that state again: its frames, its work, and the rest of the head.
 use mathlib.Core.Path.{_≡_, refl, _∙_}
-use mathlib.Core.Logic.{_≢_}
-use mathlib.Core.Bool.{Bool, true, false, _&&_}
+use mathlib.Core.Bool.{_&&_}
 use mathlib.Core.List.{List, [], _∷_}
 use Prim.Native.Nat.{ℕ, zero, suc, _+_, _*_, _≤_, _<_}
 use native.Mathlib.Omega.{arith}
 use lib.Dec.{T, leb}
-use lib.ListN.{length, getD, set, length-set}
-use lib.Seq.{sets, length-sets, getD-set-same, getD-set-other}
+use lib.ListN.{length}
+use lib.Seq.{sets, length-sets}
 use Rattle.rows.specs.declared.Span.{Span}
 use Rattle.rows.specs.Memory.{openLimit, noSpan}
 use Rattle.format.specs.declared.Frame.{Frame}
@@ -18,22 +17,8 @@ use Rattle.format.specs.Step.{integerWord, objectWord, sizeWord, textWor
 use Rattle.format.specs.Step.{Mode, atMarker, atWord, atNumber, atFlag, atText, atRaw, astray, State, wait, over, none}
 use Rattle.format.specs.Numbers.{Numbers, frameAt, framesOf, numbersOf, laid, bodyAt, bodyPurpose, useAt, modeOf, useWork, workOf}
 use Rattle.format.specs.Numbers.{stateOf, numbered, memoryOf}
-
--- ---- stores
-
-pub sets-before : (vs l : List ℕ) (i j : ℕ) → j < i → getD (sets l i vs) j 0 ≡ getD l j 0
-sets-before [] l i j h = refl
-sets-before (v ∷ vs) l i j h =
-    let d : j ≢ i = omega arith in
-    sets-before vs (set l i v) (suc i) j (omega arith) ∙ simp getD-set-other
-
-pub sets-in : (vs l : List ℕ) (i j k : ℕ) → j ≡ i + k → k < length vs → i + length vs ≤ length l → getD (sets l i vs) j 0 ≡ getD vs k 0
-sets-in [] l i j k e b h = absurd (omega arith)
-sets-in (v ∷ vs) l i j zero e b h =
-    let q : j ≡ i = omega arith in
-    let f : i < length l = omega arith in
-    rw q (sets-before vs (set l i v) (suc i) i (omega arith) ∙ simp getD-set-same)
-sets-in (v ∷ vs) l i j (suc k) e b h = sets-in vs (set l i v) (suc i) j k (omega arith) (omega arith) (rw length-set (omega arith))
+use Rattle.format.proofs.Tests.{is-true}
+use Rattle.format.proofs.Lists.{kept-sets, sets-in, Kept}
 
 -- ---- frames
 
@@ -53,13 +38,14 @@ frame-new G n f h =
 frame-low : (G vs : List ℕ) (k n : ℕ) → n < k → frameAt (sets G (k * 6) vs) n ≡ frameAt G n
 unfolding frameAt
 frame-low G vs k n h =
+    let low : Kept (k * 6) G (sets G (k * 6) vs) = kept-sets (k * 6) (k * 6) vs G (omega arith) in
     rw (
-      sets-before vs G (k * 6) (n * 6) (omega arith),
-      sets-before vs G (k * 6) (n * 6 + 1) (omega arith),
-      sets-before vs G (k * 6) (n * 6 + 2) (omega arith),
-      sets-before vs G (k * 6) (n * 6 + 3) (omega arith),
-      sets-before vs G (k * 6) (n * 6 + 4) (omega arith),
-      sets-before vs G (k * 6) (n * 6 + 5) (omega arith),
+      low (n * 6) (omega arith),
+      low (n * 6 + 1) (omega arith),
+      low (n * 6 + 2) (omega arith),
+      low (n * 6 + 3) (omega arith),
+      low (n * 6 + 4) (omega arith),
+      low (n * 6 + 5) (omega arith),
     )
 
 frames-low : (G vs : List ℕ) (k n : ℕ) → n ≤ k → framesOf (sets G (k * 6) vs) n ≡ framesOf G n
@@ -136,10 +122,6 @@ Shown (wait x ts c m) = length ts ≤ openLimit
 Shown (over (finished c m)) = Unit
 Shown (over (refused number told place m)) = T (leb 1 number && leb number 12)
 Shown (none m) = ⊥
-
-is-true : (b : Bool) → T b → b ≡ true
-is-true true h = refl
-is-true false h = absurd h
 
 pub state-numbered : (n : Numbers) (s : State) → length (n .frames) ≡ openLimit * 6 → Shown s → stateOf (numbered n s) (memoryOf s) ≡ s
 unfolding stateOf numbered

@@ -1,50 +1,18 @@
 -- The loans with their used counts, and the standard's tables: what they have to do with one another, and that it lasts while rows, store and names grow.
-use mathlib.Core.Path.{_≡_, refl, _∙_}
+use mathlib.Core.Path.{_≡_}
 use mathlib.Core.List.{List, [], _∷_}
-use mathlib.Core.Logic.{_≢_}
 use mathlib.Core.Option.{Option, none, some}
-use Prim.Native.Nat.{ℕ, zero, suc, _+_, _*_, _<_, _≤_}
+use Prim.Native.Nat.{ℕ, suc, _+_, _*_, _<_, _≤_}
 use native.Mathlib.Omega.{arith}
-use lib.ListN.{length, getD, take, drop, set, length-take, length-drop, length-set}
-use lib.Seq.{getD-take, getD-drop, ext-getD, getD-set-same, getD-set-other, sets}
+use lib.ListN.{length, getD}
 use Rattle.rows.specs.declared.Cursor.{Cursor}
 use Rattle.rows.specs.declared.Trait.{Trait}
 use Rattle.rows.specs.Memory.{Memory, memory, cursor, messageLimit, cell, colEnd}
 use Rattle.format.specs.Decide.{traitAt}
-use Rattle.format.specs.Unfold.{part}
 use Rattle.format.specs.Standard.{Tree, Traits, Tables}
-use Rattle.format.proofs.Rep.{Land, land, col, Text, Own, own-ext, Ext, text-ext}
-
--- ---- lists with some places set
-
--- the places below u stay
-abbrev pub Kept : ℕ → List ℕ → List ℕ → Type 0
-Kept u l l′ = (i : ℕ) → i < u → getD l′ i 0 ≡ getD l i 0
-
-pub kept-set : (u i v : ℕ) (l : List ℕ) → u ≤ i → Kept u l (set l i v)
-kept-set u i v l h j k = let d : j ≢ i = omega arith in simp getD-set-other
-
-pub kept-sets : (u i : ℕ) (vs l : List ℕ) → u ≤ i → Kept u l (sets l i vs)
-kept-sets u i [] l h j k = refl
-kept-sets u i (v ∷ vs) l h j k = kept-sets u (suc i) vs (set l i v) (omega arith) j k ∙ kept-set u i v l h j k
-
--- the places that are set
-pub sets-at : (vs l : List ℕ) (i k : ℕ) → k < length vs → i + length vs ≤ length l → getD (sets l i vs) (i + k) 0 ≡ getD vs k 0
-sets-at [] l i k h f = absurd (omega arith)
-sets-at (v ∷ vs) l i zero h f =
-    let e : i + 0 ≡ i = omega arith in
-    let g : i < length l = omega arith in
-    rw e (kept-sets (suc i) (suc i) vs (set l i v) (omega arith) i (omega arith) ∙ getD-set-same l i v 0 g)
-sets-at (v ∷ vs) l i (suc k) h f =
-    let e : i + suc k ≡ suc i + k = omega arith in rw e (sets-at vs (set l i v) (suc i) k (omega arith) (rw length-set (omega arith)))
-
--- a part of the places that stay
-pub part-kept : (u : ℕ) (B C : List ℕ) (b z : ℕ) → Kept u B C → u ≤ length B → u ≤ length C → b + z ≤ u → part C b z ≡ part B b z
-unfolding part
-part-kept u B C b z h f g k =
-    ext-getD 0 (take z (drop b C)) (take z (drop b B)) (simp (length-take, length-drop) (omega arith)) (λ i l.
-    let j : i < z = (let q = l in omega (arith, length-take z (drop b C))) in
-    rw (getD-take z (drop b C) i 0 j, getD-take z (drop b B) i 0 j, getD-drop b C i 0, getD-drop b B i 0) (h (b + i) (omega arith)))
+use Rattle.format.proofs.Lists.{Kept}
+use Rattle.format.proofs.Ground.{Land, land, at, Ext, landTo}
+use Rattle.format.proofs.Rep.{Text, Own, own-ext, text-ext}
 
 -- ---- what the tables have to do with the loans
 
@@ -76,7 +44,7 @@ pub record Kinds (U : List ℕ) (n : ℕ) (B : List ℕ) (u : ℕ) (N : List ℕ
 
 -- an object's entry: an open row, or one with its tree
 abbrev pub Entry : Land → ℕ → Option Tree → Type 0
-Entry L r none = (r < L .used) × (col L r colEnd ≡ 0)
+Entry L r none = (r < L .used) × (at L r colEnd ≡ 0)
 Entry L r (some t) = Own t L r
 
 pub record Objects (O : List ℕ) (n : ℕ) (L : Land) (xs : List (Option Tree)) : Type 0 where
@@ -84,9 +52,6 @@ pub record Objects (O : List ℕ) (n : ℕ) (L : Land) (xs : List (Option Tree))
   pub many : n ≡ length xs
   pub each : (i : ℕ) → i < n → Entry L (getD O i 0) (getD xs i none)
   pub order : (i j : ℕ) → i < j → j < n → getD O i 0 < getD O j 0
-
-abbrev pub landOf : ℕ → Memory → Cursor → Land
-landOf u m c = land (m .rows) (c .rows) (m .store) u
 
 -- u: how far the store is settled
 pub record Sim (u : ℕ) (m : Memory) (c : Cursor) (s : Tables) : Type 0 where
@@ -97,7 +62,7 @@ pub record Sim (u : ℕ) (m : Memory) (c : Cursor) (s : Tables) : Type 0 where
   pub namesIn : c .names * 2 ≤ length (m .names)
   pub strings : Strings (m .strings) (c .strings) (m .store) u (s .texts)
   pub kinds : Kinds (m .traits) (c .traits) (m .store) u (m .names) (c .names) (s .traits)
-  pub objects : Objects (m .objects) (c .objects) (landOf u m c) (s .objects)
+  pub objects : Objects (m .objects) (c .objects) (landTo u m c) (s .objects)
 
 -- ---- it lasts
 
@@ -124,7 +89,7 @@ trait-ext L L′ e N N′ k k′ u h t x r =
 -- rows, store and names change, so that what was finished and settled stays, and what was open stays open
 module _ {u : ℕ} {m : Memory} {c : Cursor} {s : Tables} (x : Sim u m c s) (R B N : List ℕ) (a n z k v : ℕ) where
   pub sim-grow : a ≤ messageLimit → n * 12 ≤ length R → v ≤ z → z ≤ length B → k * 2 ≤ length N → c .names ≤ k → Kept (c .names * 2) (m .names) N
-      → Ext (landOf u m c) (land R n B v) → ((r : ℕ) → r < c .rows → cell (m .rows) r colEnd ≡ 0 → cell R r colEnd ≡ 0)
+      → Ext (landTo u m c) (land R n B v) → ((r : ℕ) → r < c .rows → cell (m .rows) r colEnd ≡ 0 → cell R r colEnd ≡ 0)
       → Sim v (memory R B (m .strings) (m .objects) (m .traits) N) (cursor a n z (c .strings) (c .objects) (c .traits) k) s
   sim-grow l f g h i j p e o =
       record {
@@ -137,7 +102,7 @@ module _ {u : ℕ} {m : Memory} {c : Cursor} {s : Tables} (x : Sim u m c s) (R B
         kinds = record {
           fits = x .kinds .fits;
           many = x .kinds .many;
-          each = λ i l. trait-ext (landOf u m c) (land R n B v) e (m .names) N
+          each = λ i l. trait-ext (landTo u m c) (land R n B v) e (m .names) N
               (c .names) k j p _ _ (x .kinds .each i l);
         };
         objects = record {
@@ -148,6 +113,6 @@ module _ {u : ℕ} {m : Memory} {c : Cursor} {s : Tables} (x : Sim u m c s) (R B
         };
       }
     where
-      entry : (r : ℕ) (t : Option Tree) → Entry (landOf u m c) r t → Entry (land R n B v) r t
+      entry : (r : ℕ) (t : Option Tree) → Entry (landTo u m c) r t → Entry (land R n B v) r t
       entry r none h = let q = e .up in let l = h .0 in (omega arith, o r l (h .1))
       entry r (some t) h = own-ext e t r h

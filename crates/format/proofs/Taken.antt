@@ -22,6 +22,7 @@ use Rattle.format.specs.Standard.{textBytes}
 use Rattle.format.specs.Reading as r
 use Rattle.format.specs.Reading.{Reader, by, onPart, u29, number, chars, fill, textOf, text, filled, charsOf}
 use Rattle.format.specs.Holds.{room, nothing, ofText}
+use Rattle.format.proofs.Tests.{clash}
 use Rattle.format.proofs.Holds.{Any, Goes, goes-ret, goes-more, goes-seq, goes-free, goes-end, goes-last, goes-byte, goes-lost}
 use Rattle.format.proofs.Enough.{goes-reserved, goes-stored, goes-text-end, goes-bodied}
 use Rattle.format.proofs.Words.{size-new}
@@ -44,14 +45,14 @@ module _ (v : ℕ) where
   part-goes : {x : Part} (left n b at : ℕ) (xs : List ℕ) (f : ℕ → Reader ℕ) → Step left n b x
       → ((m : ℕ) → 0 < left → restOf (left - 1) m xs (at + 1) ≡ Value v (at + 1 + length xs) → Goes (λ (y : ℕ). y ≡ v) (f m) xs nothing)
       → goOn (λ m. restOf (left - 1) m xs (at + 1)) (at + 1) x ≡ Value v (at + suc (length xs)) → Goes (λ (y : ℕ). y ≡ v) (onPart f x) xs nothing
-  part-goes left n b at xs f (astray a) go e = let z : _≡_ {A = ℕ} 0 1 = cc in absurd (omega arith)
+  part-goes left n b at xs f (astray a) go e = clash cc
   part-goes left n b at xs f (fourth z g) go e = whole-goes at (n * 2 ^ 8 + b) xs f e
   part-goes left n b at xs f (last l h g i) go e = whole-goes at (n * 2 ^ 7 + b) xs f e
   part-goes left n b at xs f (more l h g i) go e = go (n * 2 ^ 7 + (b - 2 ^ 7)) l (e ∙ ap (Value v) (omega arith))
 
   word-goes : (xs : List ℕ) (left n at : ℕ) → restOf left n xs at ≡ Value v (at + length xs) → Goes (λ (y : ℕ). y ≡ v) (u29 left n) xs nothing
   unfolding restOf u29
-  word-goes [] left n at e = let z : _≡_ {A = ℕ} 0 1 = cc in absurd (omega arith)
+  word-goes [] left n at e = clash cc
   word-goes (b ∷ xs) zero n at e =
       goes-free _ (goes-byte b) (λ x p. rw p (part-goes 0 n b at xs (λ m. by (λ m c. lost)) (step 0 n b) (λ m l q. goes-lost) e))
   word-goes (b ∷ xs) (suc left) n at e =

@@ -1,8 +1,8 @@
 -- What the test of the rows says, where all of them pass: of each row by itself, and of the children of a row, one after the other.
-use mathlib.Core.Path.{_≡_, refl, sym, _∙_}
+use mathlib.Core.Path.{_≡_, refl, _∙_}
 use mathlib.Core.Bool.{Bool, true, false, cond, not, _&&_, _||_}
 use mathlib.Core.List.{List}
-use Prim.Native.Nat.{ℕ, zero, suc, _+_, _-_, _<_, _≤_, min}
+use Prim.Native.Nat.{ℕ, zero, suc, _+_, _-_, _<_, _≤_}
 use native.Mathlib.Omega.{arith}
 use native.Mathlib.Decide.{ℕ-discrete, decLt}
 use borrow.Author.Tests.{ltb-true, leb-true, eqb-true, eqb-false, eq-eqb, ne-eqb}
@@ -17,21 +17,8 @@ use Rattle.format.specs.RowTest as test
 use Rattle.format.specs.RowTest.{hasBody, hasClass, hasFlag, hasNumber, hasCount, hasCount2, spanFits, markFits, meant, columnsFit, valueFits}
 use Rattle.format.specs.RowTest.{children, closes, Given, gives, givenIn, given, markOf, isFilled, wellFormed, numberWritable, bodyWritable}
 use Rattle.format.specs.RowTest.{keyWritable, writable, Tested, fine, testFrom, tested}
-
--- ---- tests joined
-
-never : {X : Type 0} → false ≡ true → X
-never e = let z : _≡_ {A = ℕ} 0 1 = cc in absurd (omega arith)
-
-pub both : (t u : Bool) → (t && u) ≡ true → (t ≡ true) × (u ≡ true)
-both true true e = (refl, refl)
-both true false e = never e
-both false u e = never e
-
-pub neither : (t u : Bool) → (t || u) ≡ false → (t ≡ false) × (u ≡ false)
-neither true u e = never (sym e)
-neither false true e = never (sym e)
-neither false false e = (refl, refl)
+use Rattle.format.proofs.Tests.{both, clash}
+use Rattle.format.proofs.Lists.{part-length}
 
 -- ---- a row by itself
 
@@ -84,8 +71,8 @@ module _ (R B : List ℕ) where
   first-row : (a b : Bool) (i : ℕ) (more : Tested) → cond a (cond b more (test.faulty 14 i)) (test.faulty 13 i) ≡ fine
       → (a ≡ true) × (b ≡ true) × (more ≡ fine)
   first-row true true i more e = (refl, refl, e)
-  first-row true false i more e = let z : _≡_ {A = ℕ} 0 1 = cc in absurd (omega arith)
-  first-row false b i more e = let z : _≡_ {A = ℕ} 0 1 = cc in absurd (omega arith)
+  first-row true false i more e = clash cc
+  first-row false b i more e = clash cc
 
   from-row : (n i : ℕ) → testFrom R B i n ≡ fine → (x : ℕ) → i ≤ x → x < i + n → Row R B x
   unfolding testFrom
@@ -104,12 +91,8 @@ module _ (R B : List ℕ) where
     where
       by : (t : Bool) → eqb (rowsIn R) 0 ≡ t → cond t (test.faulty 13 0) (testFrom R B 0 (rowsIn R)) ≡ fine
           → (0 < rowsIn R) × ((i : ℕ) → i < rowsIn R → Row R B i)
-      by true g e = let z : _≡_ {A = ℕ} 0 1 = cc in absurd (omega arith)
-      by false g e = (more (rowsIn R) (eqb-false (rowsIn R) 0 g), λ i h. from-row (rowsIn R) 0 e i (omega arith) (omega arith))
-        where
-          more : (n : ℕ) → (n ≡ 0 → ⊥) → 0 < n
-          more zero h = absurd (h refl)
-          more (suc n) h = omega arith
+      by true g e = clash cc
+      by false g e = ((let h = eqb-false (rowsIn R) 0 g in omega arith), λ i h. from-row (rowsIn R) 0 e i (omega arith) (omega arith))
 
 -- ---- spans
 
@@ -118,22 +101,24 @@ module _ (B : List ℕ) where
   unfolding part
   part-short begin size = simp (length-take, length-drop) (omega arith)
 
+  none-length : (begin size : ℕ) → size ≡ 0 → length (part B begin size) ≡ size
+  unfolding part
+  none-length begin size e = simp (length-take, length-drop) (omega arith)
+
   span-length : (begin size : ℕ) → spanFits B begin size ≡ true → length (part B begin size) ≡ size
-  unfolding spanFits part
-  span-length begin size e = simp (length-take, length-drop) (by (eqb size 0) refl e)
+  unfolding spanFits
+  span-length begin size e = by (eqb size 0) refl e
     where
-      by : (t : Bool) → eqb size 0 ≡ t → cond t (eqb begin 0) (leb (begin + size) (length B)) ≡ true → min size (length B - begin) ≡ size
-      by true g e = omega (arith, eqb-true size 0 g)
-      by false g e = omega (arith, leb-true (begin + size) (length B) e)
+      by : (t : Bool) → eqb size 0 ≡ t → cond t (eqb begin 0) (leb (begin + size) (length B)) ≡ true → length (part B begin size) ≡ size
+      by true g e = none-length begin size (eqb-true size 0 g)
+      by false g e = part-length B begin size (leb-true (begin + size) (length B) e)
 
   mark-length : (mark begin size : ℕ) → markFits B mark begin size ≡ true → length (part B begin size) ≡ size
-  unfolding markFits part
+  unfolding markFits
   mark-length mark begin size e = by (eqb mark 0) e
     where
       by : (t : Bool) → cond t (eqb begin 0 && eqb size 0) (eqb mark 1 && spanFits B begin size) ≡ true → length (part B begin size) ≡ size
-      by true e =
-          let s : size ≡ 0 = eqb-true size 0 (both (eqb begin 0) (eqb size 0) e .1) in
-          simp (length-take, length-drop) (omega arith)
+      by true e = none-length begin size (eqb-true size 0 (both (eqb begin 0) (eqb size 0) e .1))
       by false e = span-length begin size (both (eqb mark 1) (spanFits B begin size) e .1)
 
 module _ (R B : List ℕ) (i : ℕ) (row : Row R B i) where

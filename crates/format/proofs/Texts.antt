@@ -7,7 +7,7 @@ use native.Mathlib.Omega.{arith}
 use native.Mathlib.Decide.{decLt}
 use borrow.Author.Tests.{lt-ltb, le-ltb, le-leb, lt-leb, ltb-false, leb-false}
 use lib.Dec.{leb, ltb, eqb, lit≤, lit<}
-use lib.ListN.{length, take, drop, set, length-append, length-take, length-drop}
+use lib.ListN.{length, drop, set, length-append, length-drop}
 use lib.Seq.{take-suc-set, drop-set-add}
 use Rattle.rows.specs.declared.Cursor.{Cursor}
 use Rattle.rows.specs.declared.Span.{Span}
@@ -25,10 +25,12 @@ use Rattle.format.specs.Reading as our
 use Rattle.format.specs.Unfold.{part}
 use Rattle.format.specs.Standard as std
 use Rattle.format.specs.Standard.{Tables, Std}
-use Rattle.format.proofs.Alike.{Left, Agree, fine, both, ours, then, made, flat, atTo, byte-then, word-then}
+use Rattle.format.proofs.Lists.{kept-set, part-length}
+use Rattle.format.proofs.Memories.{atTo, withStore, withStrings}
+use Rattle.format.proofs.Alike.{Left, Agree, fine, both, ours, then, made, flat, byte-then, word-then}
 use Rattle.format.proofs.Rep.{Text}
-use Rattle.format.proofs.Tables.{kept-set, Sim}
-use Rattle.format.proofs.Changes.{withStore, withStrings, sim-at, sim-byte, sim-reserve, sim-settle, sim-text}
+use Rattle.format.proofs.Tables.{Sim}
+use Rattle.format.proofs.Changes.{sim-at, sim-byte, sim-reserve, sim-settle, sim-text}
 use Rattle.format.proofs.Stage.{Quiet, quiet-of, quiet-at}
 
 -- ---- rules
@@ -56,11 +58,7 @@ part-more B b z v xs e h =
     rw (drop-set-add b B z v, take-suc-set (drop b B) z v l) (ap (λ l. l ++ v ∷ []) e)
 
 pub text-size : (B : List ℕ) (u b z : ℕ) (xs : List ℕ) → Text B u b z xs → u ≤ length B → length xs ≡ z
-unfolding part
-text-size B u b z xs t h =
-    let e = t .1 in
-    let f : length (take z (drop b B)) ≡ z = simp (length-take, length-drop) (omega arith) in
-    ap length (sym (t .0)) ∙ f
+text-size B u b z xs t h = ap length (sym (t .0)) ∙ part-length B b z (let e = t .1 in omega arith)
 
 pub part-none : (B : List ℕ) (b : ℕ) → part B b 0 ≡ []
 unfolding part

@@ -14,6 +14,7 @@ use Rattle.format.specs.Standard.{Tables, Tree, encode}
 use Rattle.format.specs.Unfold.{unfolded}
 use Rattle.format.specs.Writing.{written, writing}
 use Rattle.format.specs.Holds.{canHold}
+use Rattle.format.proofs.Tests.{clash}
 use Rattle.format.proofs.Meaning.{usedRows, Accord, reads, refuses, limited, reading-means}
 use Rattle.format.proofs.Parts.{depth}
 use Rattle.format.proofs.Holds.{limit}
@@ -48,8 +49,8 @@ returns (reads {c} {m} {t} {s} {rest} j w u v) free t′ s′ k rest′ q =
     let a : c .at ≡ k = cc in
     let b : t ≡ t′ = cc in
     record { cursor = c; memory = m; finishes = refl; takes = a; unfolds = v ∙ b }
-returns (refuses lo hi) free t′ s′ k rest′ q = let z : _≡_ {A = ℕ} 0 1 = cc in absurd (omega arith)
-returns (limited {n} lo hi) free t′ s′ k rest′ q = let l = is-limit n lo hi in let z : _≡_ {A = ℕ} 0 1 = cc in absurd (omega arith)
+returns (refuses lo hi) free t′ s′ k rest′ q = clash cc
+returns (limited {n} lo hi) free t′ s′ k rest′ q = let l = is-limit n lo hi in clash cc
 
 -- a tree that can be written and does not nest too deep
 pub tree-trip : (t : Tree) (m : Memory) → canHold m t ≡ true → faultOf m ≡ 0 → Writable t → depth t ≤ openLimit → (rest : List ℕ) → Bytes (encode t ++ rest)

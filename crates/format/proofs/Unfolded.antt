@@ -21,9 +21,10 @@ use Rattle.format.specs.Standard.{Tree, array, object, objectVector, dic
 use Rattle.format.specs.Unfold.{rowsIn, col, part, bodyOf, keyText, classText, flagSet, home, after, treesAt, pairsAt, entriesAt, node, treeAt}
 use Rattle.format.specs.Unfold.{unfolded}
 use Rattle.format.specs.RowTest.{hasClass, signedFits, valueFits, children, filled, gives, given, numberWritable, bodyWritable, tested, fine}
+use Rattle.format.proofs.Tests.{both, clash}
 use Rattle.format.proofs.Writable.{IsText, IsKey, IsType, IfGiven, IsRaw, Writable, WritableTrees, WritablePairs, WritableMembers}
 use Rattle.format.proofs.Writable.{WritableEntries}
-use Rattle.format.proofs.Tested.{both, Row, tested-rows, part-short, key-length, body-length, class-mark}
+use Rattle.format.proofs.Tested.{Row, tested-rows, part-short, key-length, body-length, class-mark}
 use Rattle.format.proofs.Tested.{Walk, done, next, walk-start, walk-after, walk-long, home-row, kind-is}
 use Rattle.format.proofs.Loans.{lent}
 
@@ -81,7 +82,7 @@ module _ (R B : List ℕ) (few : rowsIn R ≤ 16384) (small : length B ≤ 65536
     where
       by : (t : Bool) → ltb 0 (col R i colKeySize) ≡ t → (t || false) ≡ true → 0 < length (keyText R B i)
       by true l z = omega (arith, key-length R B i (rows i h), ltb-true 0 (col R i colKeySize) l)
-      by false l z = let z : _≡_ {A = ℕ} 0 1 = cc in absurd (omega arith)
+      by false l z = clash cc
 
   -- ---- children
 
@@ -155,7 +156,7 @@ module _ (R B : List ℕ) (few : rowsIn R ≤ 16384) (small : length B ≤ 65536
         record { text = text-fits t; filled = omega (arith, body-length R B i (rows i h), ltb-true 0 (col R i colBodySize) l) }
 
     star : (l : List ℕ) → isStar l ≡ false → l ≡ 0x2A ∷ [] → ⊥
-    star l e q = let z : isStar (0x2A ∷ []) ≡ false = rw q at e in let z : _≡_ {A = ℕ} 0 1 = cc in omega arith
+    star l e q = let z : isStar (0x2A ∷ []) ≡ false = rw q at e in clash cc
 
     vector-class : col R i colKind ≡ kindObjectVector → eqb (col R i colClassMark) 1 ≡ true → IsType (bodyOf R B i)
     unfolding bodyWritable

@@ -6,7 +6,7 @@ use Rattle.rows.specs.Memory.{Memory}
 use Rattle.format.specs.declared.Answer.{Answer}
 use Rattle.format.specs.declared.Written.{Written}
 use Rattle.format.specs.Numbers.{Numbers}
-use Rattle.format.specs.Answers.{Fed, fed, Read, read, Output, output, beginCall, feedCall, endCall, readCall, writeCall, textCall}
+use Rattle.format.specs.Answers.{Fed, fed, read, output, beginCall, feedCall, endCall, readCall, writeCall, textCall}
 
 -- begin, feed and end leave an answer, a state and the loans
 one-fed : (f : Fed) (a b : Answer) (s t : Numbers) (m n : Memory) → fed a s m ≡ f → fed b t n ≡ f → (a ≡ b) × (s ≡ t) × (m ≡ n)

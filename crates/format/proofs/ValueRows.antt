@@ -28,18 +28,19 @@ use Rattle.format.specs.Reading as reading
 use Rattle.format.specs.Reading.{_>>=_, _>>_, Values, decided, by, ret, entries}
 use Rattle.format.specs.Unfold.{part}
 use Rattle.format.specs.RowTest.{isObject, Given, filled}
-use Rattle.format.proofs.Feeding.{on-bool}
+use Rattle.format.proofs.Tests.{on-bool}
+use Rattle.format.proofs.Memories.{withRows, atTo}
+use Rattle.format.proofs.Ground.{done-ext, ext-same, ext-trans, landOf}
 use Rattle.format.proofs.Lands.{run-as, ValidIn, Valid, Class, classless, class, Full, Other, class-full, class-other, Meets, run-ext}
 use Rattle.format.proofs.Lands.{Number, undefined, null, boolean, integer, double, date, Texts, string, xmlDocument, xml, Raws, ints, uints}
-use Rattle.format.proofs.Lands.{doubles, Form, number, text, bytes, raw, array, object, vector, dictionary, reference, done-ext, ext-same}
-use Rattle.format.proofs.Lands.{ext-trans, valid-ext, meets-ext}
+use Rattle.format.proofs.Lands.{doubles, Form, number, text, bytes, raw, array, object, vector, dictionary, reference, valid-ext, meets-ext}
 use Rattle.format.proofs.Classes.{signed-column, object-class, star-other, star-one, wp-vector, wp-object}
 use Rattle.format.proofs.Markers.{Opens, ofXmlDocument, ofDate, ofArray, ofXml, ofBytes, ofInts, ofUints, ofDoubles, ofObjects, ofDictionary}
 use Rattle.format.proofs.Markers.{Marks, atUndefined, atNull, atFalse, atTrue, atInteger, atDouble, atString, atObject, atBody, marks}
 use Rattle.format.proofs.Markers.{is-object, body-high, new-row}
-use Rattle.format.proofs.Stages.{withRows, landOf, Ends, still, already, Entry, Ok, Keep, keep-ext, Stage, stage-set, stage-put, stage-span}
+use Rattle.format.proofs.Stages.{Ends, still, already, Entry, Ok, Keep, keep-ext, Stage, stage-set, stage-put, stage-span}
 use Rattle.format.proofs.Stages.{stage-class, stage-enter, Val, val-of, stage-close, begin-ok, begin-keep, begin-row, stage-begin}
-use Rattle.format.proofs.Posts.{Post, stops, gets, post-then, post-map, post-by, atTo, wp-byte, wp-word, wp-number, wp-closed, wp-numbered}
+use Rattle.format.proofs.Posts.{Post, stops, gets, post-then, post-map, post-by, wp-byte, wp-word, wp-number, wp-closed, wp-numbered}
 use Rattle.format.proofs.Posts.{wp-date, wp-bodied, wp-flagged, wp-grown, wp-referred, wp-marker, wp-reserved, wp-judged, wp-entered}
 use Rattle.format.proofs.Posts.{wp-old-trait, wp-named, wp-trait-end, wp-starred}
 use Rattle.format.proofs.Spans.{Only, only, wp-chars, wp-fill, wp-text}

@@ -21,9 +21,9 @@ use Rattle.format.specs.Reading.{Values}
 use Rattle.format.specs.Reading as our
 use Rattle.format.specs.Standard as std
 use Rattle.format.specs.Standard.{Tables, Std, Tree, undefined, null, boolean}
-use Rattle.format.proofs.Alike.{Left, Agree, fine, both, ours, atTo, byte-then, word-then}
+use Rattle.format.proofs.Memories.{atTo, withRows}
+use Rattle.format.proofs.Alike.{Left, Agree, fine, both, ours, byte-then, word-then}
 use Rattle.format.proofs.Tables.{Sim}
-use Rattle.format.proofs.Changes.{withRows}
 use Rattle.format.proofs.Stage.{Val, Stage, stage-at}
 use Rattle.format.proofs.Texts.{limit}
 use Rattle.format.proofs.Ends.{NewAlike, opening, rowed, rowedTo, begins, leaf-val, enter-then, refer-alike}

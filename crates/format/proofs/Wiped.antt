@@ -2,14 +2,14 @@
 use mathlib.Core.Path.{_≡_, refl, sym, ap, _∙_}
 use mathlib.Core.Logic.{_≢_}
 use mathlib.Core.List.{List}
-use Prim.Native.Nat.{ℕ, zero, suc}
-use native.Mathlib.Omega.{arith}
+use Prim.Native.Nat.{ℕ, suc}
 use lib.ListN.{length, replicate, length-replicate}
 use Rattle.rows.specs.Memory.{Memory, zeros, zeroed, faultOf}
 use Rattle.format.specs.declared.Lent.{Lent}
 use Rattle.format.specs.Numbers.{lentOf}
-use Rattle.format.specs.Reading.{Ended, finished, refused, reading, unlessFault}
-use Rattle.format.specs.Step.{State, wait, over, none, run, end, begin}
+use Rattle.format.specs.Reading.{refused, reading}
+use Rattle.format.specs.Step.{State, run, end, begin}
+use Rattle.format.proofs.Tests.{clash}
 use Rattle.format.proofs.Feeding.{feeding}
 use Rattle.format.proofs.Along.{Good, waits, finishes, declines, Left, found, wiped, good-run, good-begin, lends-zeroed}
 
@@ -45,7 +45,7 @@ unfolding end
 ended-zero m at s (waits {c} {m = k} held f u) n told place m′ e h =
     let q : zeroed k ≡ m′ = cc in
     sym q ∙ same-zero k m (lends-zeroed (lentOf m) k (held .lends))
-ended-zero m at s (finishes held) n told place m′ e h = let z : _≡_ {A = ℕ} 0 1 = cc in absurd (omega arith)
+ended-zero m at s (finishes held) n told place m′ e h = clash cc
 ended-zero m at s (declines {n = j} {m = k} t l z) n told place m′ e h =
     let q : k ≡ m′ = cc in
     let i : j ≡ n = cc in

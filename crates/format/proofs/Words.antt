@@ -18,6 +18,7 @@ use Rattle.wire.proofs.U29.{Step, step, astray, fourth, last, more}
 use Rattle.wire.proofs.Round.{u29-round}
 use Rattle.format.specs.Reading.{ok}
 use Rattle.format.specs.Standard.{Tables, Std, byte, word, Pairs, noPairs, pair, countPairs, traitWord}
+use Rattle.format.proofs.Tests.{clash}
 
 -- the word of k bytes
 record Word (at q : ℕ) (g : Std ℕ) (v : ℕ) (bs : List ℕ) : Type 0 where
@@ -29,7 +30,7 @@ word-byte : (left n b at v q : ℕ) (bs : List ℕ) {x : Part} → Step left n b
     → ((m : ℕ) → restOf (left - 1) m bs (at + 1) ≡ Value v q → Word (at + 1) q (word (left - 1) m) v bs)
     → goOn (λ m. restOf (left - 1) m bs (at + 1)) (at + 1) x ≡ Value v q → Word at q (word left n) v (b ∷ bs)
 unfolding word byte
-word-byte left n b at v q bs (astray a) go e = let z : _≡_ {A = ℕ} 0 1 = cc in absurd (omega arith)
+word-byte left n b at v q bs (astray a) go e = clash cc
 word-byte zero n b at v q bs (fourth z f) go e =
     let w : n * 2 ^ 8 + b ≡ v = cc in
     let r : at + 1 ≡ q = cc in
@@ -52,7 +53,7 @@ word-byte (suc left) n b at v q bs (more l h f g) go e =
 
 word-rest : (bs : List ℕ) (left n at v q : ℕ) → restOf left n bs at ≡ Value v q → Word at q (word left n) v bs
 unfolding restOf
-word-rest [] left n at v q e = let z : _≡_ {A = ℕ} 0 1 = cc in absurd (omega arith)
+word-rest [] left n at v q e = clash cc
 word-rest (b ∷ bs) left n at v q e = word-byte left n b at v q bs (step left n b) (λ m. word-rest bs (left - 1) m (at + 1) v q) e
 
 -- a U29 that was written is read

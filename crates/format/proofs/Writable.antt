@@ -10,8 +10,7 @@ use Rattle.utf8.specs.Grammar.{validText}
 use Rattle.format.specs.Standard.{Plain, undefined, null, boolean, integer, double, string, xmlDocument, xml, byteArray, date}
 use Rattle.format.specs.Standard.{intVector, uintVector, doubleVector}
 use Rattle.format.specs.Standard.{Tree, plain, array, object, objectVector, dictionary, Trees, nil, cons, Pairs, noPairs, pair, Entries}
-use Rattle.format.specs.Standard.{noEntries, entry}
-use Rattle.format.specs.Standard.{count, countPairs, countEntries}
+use Rattle.format.specs.Standard.{noEntries, entry, count, countPairs, countEntries}
 
 -- a text, valid and not too long
 pub record IsText (t : List ℕ) : Type 0 where

@@ -14,6 +14,7 @@ use Rattle.format.specs.Standard.{Tree, encode}
 use Rattle.format.specs.Unfold.{unfolded}
 use Rattle.format.specs.RowTest.{Tested, fine, faulty, tested}
 use Rattle.format.specs.Writing.{bytesOf, isDeep, emit, Wrote, written, unwritten, settle, afterTest, afterFault, writing}
+use Rattle.format.proofs.Tests.{clash}
 use Rattle.format.proofs.Parts.{depth}
 use Rattle.format.proofs.Emit.{begins-prefix, emit-whole, emit-deep, Nested, nested-deep, emit-stop}
 
@@ -140,13 +141,13 @@ module _ (R B out P : List ℕ) where
       let m : length (encode (unfolded R B 0)) ≡ n = cc in
       let q : encode (unfolded R B 0) ++ drop (length (encode (unfolded R B 0))) out ≡ P = cc in
       record { passes = p; shallow = d; size = sym m; fits = omega arith; output = sym q ∙ ap (λ (k : ℕ). encode (unfolded R B 0) ++ drop k out) m }
-  end-accepted n p (full d l) e = let z : _≡_ {A = ℕ} 0 1 = cc in absurd (omega arith)
-  end-accepted n p (tooDeep x f l) e = let z : _≡_ {A = ℕ} 0 1 = cc in absurd (omega arith)
-  end-accepted n p (fullBefore x f l) e = let z : _≡_ {A = ℕ} 0 1 = cc in absurd (omega arith)
+  end-accepted n p (full d l) e = clash cc
+  end-accepted n p (tooDeep x f l) e = clash cc
+  end-accepted n p (fullBefore x f l) e = clash cc
 
   is-accepted : {w : Wrote} (n : ℕ) → Outcome R B out w → w ≡ written n P → Accepted R B out n P
-  is-accepted n (fault m g) e = let z : _≡_ {A = ℕ} 0 1 = cc in absurd (omega arith)
-  is-accepted n (unfit m row g h) e = let z : _≡_ {A = ℕ} 0 1 = cc in absurd (omega arith)
+  is-accepted n (fault m g) e = clash cc
+  is-accepted n (unfit m row g h) e = clash cc
   is-accepted n (passed p h) e = end-accepted n p h e
 
   -- accepted exactly where nothing is refused, the tree nests no deeper than the limit and its bytes fit
@@ -170,7 +171,7 @@ module _ (R B out P : List ℕ) where
       )
 
   end-refused : {w : Wrote} (number told place : ℕ) → Ends (unfolded R B 0) out w → w ≡ unwritten number told place P → P ≡ out
-  end-refused number told place (whole d l) e = let z : _≡_ {A = ℕ} 0 1 = cc in absurd (omega arith)
+  end-refused number told place (whole d l) e = clash cc
   end-refused number told place (full d l) e = cc
   end-refused number told place (tooDeep x f l) e = cc
   end-refused number told place (fullBefore x f l) e = cc
