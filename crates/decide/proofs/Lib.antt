@@ -1,3 +1,4 @@
+pub mod Markers
 pub mod Refusals
 pub mod Room
 pub mod Rows

@@ -23,6 +23,10 @@ use Rattle.decide.specs.declared.Whether.{Whether}
 use Rattle.decide.specs.declared.Whether.the-variants as whether
 use Rattle.decide.specs.declared.Width.{Width}
 use Rattle.decide.specs.declared.Width.the-variants as width
+use Rattle.decide.specs.declared.Kind.{Kind}
+use Rattle.decide.specs.declared.Kind.the-variants as kind
+use Rattle.decide.specs.declared.Body.{Body}
+use Rattle.decide.specs.declared.Body.the-variants as body
 
 -- the loan after a decision: a refusal leaves it as it was
 abbrev pub leaving : {A : Type 0} → List ℕ → Out (List ℕ) A → With1 (Out Unit A)
@@ -60,3 +64,35 @@ whetherOf (whether.No r) = stopped r
 abbrev pub widthIn : Width → d.Width
 widthIn width.Four = d.four
 widthIn width.Eight = d.eight
+
+-- what a size word is of
+abbrev pub bodyIn : Body → d.Body
+bodyIn body.Xml = d.xml
+bodyIn body.Date = d.date
+bodyIn body.Array = d.array
+bodyIn body.Bytes = d.bytes
+bodyIn body.Objects = d.objects
+bodyIn body.Dictionary = d.dictionary
+bodyIn body.RawFour = d.raw d.four
+bodyIn body.RawEight = d.raw d.eight
+
+-- what the size word after a marker is of: where it is of none, XML
+abbrev pub bodyAfter : d.Kind → d.Body
+bodyAfter d.leaf = d.xml
+bodyAfter d.integer = d.xml
+bodyAfter d.double = d.xml
+bodyAfter d.string = d.xml
+bodyAfter d.object = d.xml
+bodyAfter (d.sized x) = x
+
+abbrev pub bodyNo : ℕ → d.Body
+bodyNo b = bodyAfter (d.kindOf b)
+
+-- what follows a marker, the size word being of a given body
+abbrev pub kindIn : Kind → d.Body → d.Kind
+kindIn kind.Leaf x = d.leaf
+kindIn kind.Integer x = d.integer
+kindIn kind.Double x = d.double
+kindIn kind.String x = d.string
+kindIn kind.Object x = d.object
+kindIn kind.Sized x = d.sized x

@@ -17,7 +17,13 @@ ghost use lib.Seq.{sets};
 ghost use Rattle.wire.specs.Put.{with1};
 ghost use Rattle.rows.specs.Memory.{spanWidth};
 ghost use Rattle.format.specs.Decide as d;
-ghost use Rattle.decide.specs.Held.{leaving, doneOf, begunOf, textOf, traitedOf, keyedOf, whetherOf, widthIn};
+ghost use Rattle.decide.specs.declared.Done.the-variants as done;
+ghost use Rattle.decide.specs.declared.Begun.the-variants as begun;
+ghost use Rattle.decide.specs.declared.Text.the-variants as text;
+ghost use Rattle.decide.specs.declared.Traited.the-variants as traited;
+ghost use Rattle.decide.specs.declared.Keyed.the-variants as keyed;
+ghost use Rattle.decide.specs.declared.Whether.the-variants as whether;
+ghost use Rattle.decide.specs.Held.{leaving, doneOf, begunOf, textOf, traitedOf, keyedOf, whetherOf, widthIn, kindIn, bodyIn, bodyNo};
 
 // ---- numbers per entry, and their places in it
 
@@ -58,6 +64,24 @@ const KIND_REFERENCE: usize = 18;
 const MARKER_TRUE: usize = 3;
 
 const MARKER_INTEGER: usize = 4;
+
+const MARKER_DOUBLE: usize = 5;
+
+const MARKER_STRING: usize = 6;
+
+const MARKER_DATE: usize = 8;
+
+const MARKER_ARRAY: usize = 9;
+
+const MARKER_OBJECT: usize = 10;
+
+const MARKER_BYTES: usize = 12;
+
+const MARKER_DOUBLES: usize = 15;
+
+const MARKER_OBJECTS: usize = 16;
+
+const MARKER_DICTIONARY: usize = 17;
 
 const MARKER_LAST: usize = 0x11;
 
@@ -138,8 +162,86 @@ pub enum Width {
     Eight,
 }
 
+// What follows a marker: nothing; a U29; eight bytes; a string; an object word; or a size word.
+pub enum Kind {
+    Leaf,
+    Integer,
+    Double,
+    String,
+    Object,
+    Sized,
+}
+
+// What the size word of a value is of.
+pub enum Body {
+    Xml,
+    Date,
+    Array,
+    Bytes,
+    Objects,
+    Dictionary,
+    RawFour,
+    RawEight,
+}
+
+// ---- the refusal in an answer that is one
+
+pub fn not_done(a: Done) -> Refusal
+    ensures { λ r. ⌜ ((x : Refusal) → a ≡ done.Refused x → r ≡ x) ⌝ }
+{
+    match a {
+        Done::Fine(c) => lost(),
+        Done::Refused(x) => x,
+    }
+}
+
+pub fn no_row(a: Begun) -> Refusal
+    ensures { λ r. ⌜ ((x : Refusal) → a ≡ begun.No x → r ≡ x) ⌝ }
+{
+    match a {
+        Begun::Row(row, c) => lost(),
+        Begun::No(x) => x,
+    }
+}
+
+pub fn no_text(a: Text) -> Refusal
+    ensures { λ r. ⌜ ((x : Refusal) → a ≡ text.No x → r ≡ x) ⌝ }
+{
+    match a {
+        Text::Have(s, c) => lost(),
+        Text::No(x) => x,
+    }
+}
+
+pub fn no_trait(a: Traited) -> Refusal
+    ensures { λ r. ⌜ ((x : Refusal) → a ≡ traited.No x → r ≡ x) ⌝ }
+{
+    match a {
+        Traited::Known(t, c) => lost(),
+        Traited::No(x) => x,
+    }
+}
+
+pub fn no_key(a: Keyed) -> Refusal
+    ensures { λ r. ⌜ ((x : Refusal) → a ≡ keyed.No x → r ≡ x) ⌝ }
+{
+    match a {
+        Keyed::With(k, c) => lost(),
+        Keyed::No(x) => x,
+    }
+}
+
+pub fn no_flag(a: Whether) -> Refusal
+    ensures { λ r. ⌜ ((x : Refusal) → a ≡ whether.No x → r ≡ x) ⌝ }
+{
+    match a {
+        Whether::Is(b, c) => lost(),
+        Whether::No(x) => x,
+    }
+}
+
 // The state doesn't hold together.
-fn lost() -> Refusal
+pub fn lost() -> Refusal
     ensures { λ r. ⌜ r ≡ record { number = 12; told = 0; place = 0 } ⌝ }
 {
     Refusal {
@@ -150,7 +252,7 @@ fn lost() -> Refusal
 }
 
 // A refusal at the byte taken last.
-fn refuse(c: Cursor, number: usize, told: usize) -> Refusal
+pub fn refuse(c: Cursor, number: usize, told: usize) -> Refusal
     ensures { λ r. ⌜ r ≡ record { number = number; told = told; place = c .at } ⌝ }
 {
     Refusal {
@@ -161,6 +263,65 @@ fn refuse(c: Cursor, number: usize, told: usize) -> Refusal
 }
 
 // ---- markers
+
+// What follows a marker.
+pub fn kind_of(b: usize) -> Kind
+    ensures { λ r. ⌜ kindIn r (bodyNo b) ≡ d.kindOf b ⌝ }
+{
+    if b < MARKER_INTEGER {
+        return Kind::Leaf;
+    }
+    if MARKER_LAST < b {
+        return Kind::Leaf;
+    }
+    if b == MARKER_INTEGER {
+        return Kind::Integer;
+    }
+    if b == MARKER_DOUBLE {
+        return Kind::Double;
+    }
+    if b == MARKER_STRING {
+        return Kind::String;
+    }
+    if b == MARKER_OBJECT {
+        return Kind::Object;
+    }
+    Kind::Sized
+}
+
+// What the size word after a marker is of: where it is of none, XML.
+pub fn body_of(b: usize) -> Body
+    ensures { λ r. ⌜ bodyIn r ≡ bodyNo b ⌝ }
+{
+    if b < MARKER_DATE {
+        return Body::Xml;
+    }
+    if b == MARKER_DATE {
+        return Body::Date;
+    }
+    if b == MARKER_ARRAY {
+        return Body::Array;
+    }
+    if b < MARKER_BYTES {
+        return Body::Xml;
+    }
+    if b == MARKER_BYTES {
+        return Body::Bytes;
+    }
+    if b < MARKER_DOUBLES {
+        return Body::RawFour;
+    }
+    if b == MARKER_DOUBLES {
+        return Body::RawEight;
+    }
+    if b == MARKER_OBJECTS {
+        return Body::Objects;
+    }
+    if b == MARKER_DICTIONARY {
+        return Body::Dictionary;
+    }
+    Body::Xml
+}
 
 // The kind of a marker's row: false and true have one.
 fn row_kind(b: usize) -> usize
@@ -326,7 +487,7 @@ pub fn vector_class(rows: &mut [usize], c: Cursor, row: usize, star: bool, s: Sp
 }
 
 // A flag byte: fixed is any but 0.
-pub fn fixed(b: u8) -> usize
+pub fn fixed(b: usize) -> usize
     ensures { λ r. ⌜ r ≡ d.fixed b ⌝ }
 {
     if b == 0 {
@@ -336,7 +497,7 @@ pub fn fixed(b: u8) -> usize
 }
 
 // A flag byte: weak is only 1.
-pub fn weak(b: u8) -> usize
+pub fn weak(b: usize) -> usize
     ensures { λ r. ⌜ r ≡ d.weak b ⌝ }
 {
     if b == 1 {
@@ -372,7 +533,7 @@ pub fn counted(rows: &mut [usize], c: Cursor, row: usize, col: usize, done: usiz
     Done::Fine(c)
 }
 
-fn width_of(w: Width) -> usize
+pub fn width_of(w: Width) -> usize
     ensures { λ r. ⌜ r ≡ d.widthOf (widthIn w) ⌝ }
 {
     match w {

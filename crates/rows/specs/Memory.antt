@@ -140,6 +140,27 @@ putRow R row v = cond (ltb row (length R / rowWidth)) (sets R (row * rowWidth) (
 unfoldable pub columnAt : List ℕ → ℕ → ℕ → ℕ
 columnAt R row col = cond (ltb row (length R / rowWidth)) (cond (ltb col rowWidth) (cell R row col) 0) 0
 
+abbrev pub keyAt : List ℕ → ℕ → Key
+keyAt R row = record { mark = columnAt R row colKeyMark; begin = columnAt R row colKeyBegin; size = columnAt R row colKeySize }
+
+abbrev pub bodyAt : List ℕ → ℕ → Span
+bodyAt R row = record { begin = columnAt R row colBodyBegin; size = columnAt R row colBodySize }
+
+-- a whole row, zero where it is not lent
+abbrev pub rowAt : List ℕ → ℕ → Row
+rowAt R row =
+    record {
+      kind = columnAt R row colKind;
+      key = keyAt R row;
+      body = bodyAt R row;
+      class = columnAt R row colClassMark;
+      flag = columnAt R row colFlag;
+      number = columnAt R row colNumber;
+      count = columnAt R row colCount;
+      count2 = columnAt R row colCount2;
+      end = columnAt R row colEnd;
+    }
+
 -- row is used, and lent
 abbrev pub rowUsed : List ℕ → Cursor → ℕ → Bool
 rowUsed R c row = ltb row (c .rows) && leb (c .rows) (length R / rowWidth)

@@ -2,9 +2,12 @@
 
 ghost use mathlib.Core.Path.{_≡_};
 ghost use mathlib.Core.Bool.{not, _&&_, _||_};
-ghost use Prim.Native.Nat.{_<_, _/_, _%_};
+ghost use Prim.Native.Nat.{_+_, _<_, _≤_, _/_, _%_};
 ghost use lib.Dec.{leb, ltb, eqb};
-ghost use Rattle.rows.specs.Memory.{rowWidth, loanFault, zeros, putRow, columnAt};
+ghost use lib.ListN.{length};
+ghost use lib.Seq.{sets, slice};
+ghost use Rattle.rows.specs.Memory.{rowWidth, loanFault, zeros, putRow, columnAt, keyAt, bodyAt, rowAt};
+ghost use Rattle.rows.specs.Memory.{colKind, colClassMark, colFlag, colNumber, colCount, colCount2, colEnd};
 
 const ROW_WIDTH: usize = 12;
 
@@ -123,6 +126,18 @@ pub fn zero_bytes(xs: &mut [u8])
     }
 }
 
+// `n` bytes of `src` from `from` on, to `dst` from `at` on.
+pub fn copy(dst: &mut [u8], at: usize, src: &[u8], from: usize, n: usize)
+    requires { ⌜ (at + n ≤ length (now dst)) × (from + n ≤ length (now src)) ⌝ }
+    ensures { λ r. ⌜ now (dst .exit) ≡ sets (now (dst .entry)) at (slice from (from + n) (now (src .entry))) ⌝ }
+{
+    let mut i = 0;
+    while i < n {
+        dst[at + i] = src[from + i];
+        i += 1;
+    }
+}
+
 // ---- rows
 
 // The row is used, and lent.
@@ -166,4 +181,86 @@ pub fn column(rows: &[usize], row: usize, col: usize) -> usize
         }
     }
     0
+}
+
+// ---- the columns by name, 0 where the row is not there
+
+pub fn kind_at(rows: &[usize], row: usize) -> usize
+    ensures { λ r. ⌜ r ≡ columnAt (now (rows .entry)) row colKind ⌝ }
+{
+    column(rows, row, 0)
+}
+
+pub fn class_at(rows: &[usize], row: usize) -> usize
+    ensures { λ r. ⌜ r ≡ columnAt (now (rows .entry)) row colClassMark ⌝ }
+{
+    column(rows, row, 6)
+}
+
+pub fn flag_at(rows: &[usize], row: usize) -> usize
+    ensures { λ r. ⌜ r ≡ columnAt (now (rows .entry)) row colFlag ⌝ }
+{
+    column(rows, row, 7)
+}
+
+pub fn number_at(rows: &[usize], row: usize) -> usize
+    ensures { λ r. ⌜ r ≡ columnAt (now (rows .entry)) row colNumber ⌝ }
+{
+    column(rows, row, 8)
+}
+
+pub fn count_at(rows: &[usize], row: usize) -> usize
+    ensures { λ r. ⌜ r ≡ columnAt (now (rows .entry)) row colCount ⌝ }
+{
+    column(rows, row, 9)
+}
+
+pub fn count2_at(rows: &[usize], row: usize) -> usize
+    ensures { λ r. ⌜ r ≡ columnAt (now (rows .entry)) row colCount2 ⌝ }
+{
+    column(rows, row, 10)
+}
+
+pub fn end_at(rows: &[usize], row: usize) -> usize
+    ensures { λ r. ⌜ r ≡ columnAt (now (rows .entry)) row colEnd ⌝ }
+{
+    column(rows, row, 11)
+}
+
+// The key of a row.
+pub fn key_at(rows: &[usize], row: usize) -> Key
+    ensures { λ r. ⌜ r ≡ keyAt (now (rows .entry)) row ⌝ }
+{
+    Key {
+        mark: column(rows, row, 1),
+        begin: column(rows, row, 2),
+        size: column(rows, row, 3),
+    }
+}
+
+// The body of a row, or its class.
+pub fn body_at(rows: &[usize], row: usize) -> Span
+    ensures { λ r. ⌜ r ≡ bodyAt (now (rows .entry)) row ⌝ }
+{
+    Span {
+        begin: column(rows, row, 4),
+        size: column(rows, row, 5),
+    }
+}
+
+// A whole row, zero where it is not there.
+pub fn get_row(rows: &[usize], row: usize) -> Row
+    ensures { λ r. ⌜ r ≡ rowAt (now (rows .entry)) row ⌝ }
+{
+    Row {
+        kind: kind_at(rows, row),
+        key: key_at(rows, row),
+        body: body_at(rows, row),
+        class: class_at(rows, row),
+        flag: flag_at(rows, row),
+        number: number_at(rows, row),
+        count: count_at(rows, row),
+        count2: count2_at(rows, row),
+        end: end_at(rows, row),
+    }
 }

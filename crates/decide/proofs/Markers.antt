@@ -1,0 +1,63 @@
+-- What follows a marker, by tests of its number.
+use mathlib.Core.Path.{_≡_, refl}
+use mathlib.Core.Bool.{false, cond}
+use Prim.Native.Nat.{ℕ, zero, suc, _+_, _<_, _≤_}
+use native.Mathlib.Omega.{arith}
+use lib.Dec.{ltb, eqb}
+use borrow.Author.Tests.{lt-ltb, le-ltb, ne-eqb}
+use Rattle.format.specs.Decide.{Kind, leaf, integer, double, string, object, sized, Body, xml, date, array, bytes, objects, dictionary, raw, four, eight, kindOf}
+use Rattle.decide.specs.Held.{bodyNo}
+
+-- two functions agree at the first n numbers, and past them
+abbrev Same : {A : Type 0} → (ℕ → A) → (ℕ → A) → ℕ → Type 0
+Same f g zero = (b : ℕ) → f b ≡ g b
+Same f g (suc n) = (f zero ≡ g zero) × Same (λ b. f (suc b)) (λ b. g (suc b)) n
+
+same : {A : Type 0} (f g : ℕ → A) (n : ℕ) → Same f g n → (b : ℕ) → f b ≡ g b
+same f g zero e b = e b
+same f g (suc n) e zero = e .0
+same f g (suc n) e (suc b) = same (λ b. f (suc b)) (λ b. g (suc b)) n (e .1) b
+
+abbrev pub kindBy : ℕ → Kind
+kindBy b =
+    cond (ltb b 4) leaf (cond (ltb 17 b) leaf (cond (eqb b 4) integer (cond (eqb b 5) double (cond (eqb b 6) string (cond (eqb b 10) object (sized (bodyNo b)))))))
+
+abbrev pub bodyBy : ℕ → Body
+bodyBy b =
+    cond (ltb b 8) xml (cond (eqb b 8) date (cond (eqb b 9) array (cond (ltb b 12) xml (cond (eqb b 12) bytes (cond (ltb b 15) (raw four)
+    (cond (eqb b 15) (raw eight) (cond (eqb b 16) objects (cond (eqb b 17) dictionary xml))))))))
+
+-- past the markers
+abbrev past : ℕ → ℕ
+past b = suc (suc (suc (suc (suc (suc (suc (suc (suc (suc (suc (suc (suc (suc (suc (suc (suc (suc b)))))))))))))))))
+
+past-lt : (b n : ℕ) → n ≤ 18 → ltb (past b) n ≡ false
+past-lt b n h = le-ltb (past b) n (omega arith)
+
+past-eq : (b n : ℕ) → n < 18 → eqb (past b) n ≡ false
+past-eq b n h = ne-eqb (past b) n (λ (e : past b ≡ n). omega (arith, e))
+
+kind-past : (b : ℕ) → kindBy (past b) ≡ leaf
+kind-past b = simp (past-lt b 4 (omega arith), lt-ltb 17 (past b) (omega arith))
+
+body-past : (b : ℕ) → bodyBy (past b) ≡ xml
+body-past b =
+    simp (
+      past-lt b 8 (omega arith),
+      past-eq b 8 (omega arith),
+      past-eq b 9 (omega arith),
+      past-lt b 12 (omega arith),
+      past-eq b 12 (omega arith),
+      past-lt b 15 (omega arith),
+      past-eq b 15 (omega arith),
+      past-eq b 16 (omega arith),
+      past-eq b 17 (omega arith),
+    )
+
+pub kind-by : (b : ℕ) → kindBy b ≡ kindOf b
+unfolding kindOf
+kind-by = same kindBy kindOf 18 (refl, (refl, (refl, (refl, (refl, (refl, (refl, (refl, (refl, (refl, (refl, (refl, (refl, (refl, (refl, (refl, (refl, (refl, kind-past))))))))))))))))))
+
+pub body-by : (b : ℕ) → bodyBy b ≡ bodyNo b
+unfolding kindOf
+body-by = same bodyBy bodyNo 18 (refl, (refl, (refl, (refl, (refl, (refl, (refl, (refl, (refl, (refl, (refl, (refl, (refl, (refl, (refl, (refl, (refl, (refl, body-past))))))))))))))))))

@@ -1,0 +1,37 @@
+-- Made by proofs.py from answers/object_over.txt: change that file, not this one.
+-- answers 5b6dca476b1c proof 957bf258b45b
+use mathlib.Core.Path.{sym, ap, _∙_}
+use Rattle.decide.proofs.Refusals.{stops}
+use Rattle.parts.specs.Held.{classedOf, overOf}
+use borrow.Author.Needs.{needs}
+use Rattle.parts.proofs.object_over.Statement.{statement}
+use Rattle.parts.proofs.object_over.Tie as tie
+use Rattle.parts.proofs.object_over.Reads as reads
+use Rattle.parts.proofs.object_over.Lts as lts
+use Rattle.decide.proofs.lost.Reads as lost-reads
+
+enum-known-a : tie.Need-enum-known-a
+enum-known-a c = search needs
+
+lost-requires : tie.Need-lost-requires
+lost-requires c κs = search needs
+
+enum-known-a-2 : tie.Need-enum-known-a-2
+enum-known-a-2 c = search needs
+
+enum-known-a-3 : tie.Need-enum-known-a-3
+enum-known-a-3 c = search needs
+
+returns : tie.Need-returns
+returns c = stops Unit (c .lost .ensures) ∙ sym (ap (λ a. overOf (classedOf a)) (c .before .before .a .given .1))
+
+returns-2 : tie.Need-returns-2
+returns-2 c = sym (ap (λ a. overOf (classedOf a)) (c .before .a2 .given .1))
+
+returns-3 : tie.Need-returns-3
+returns-3 c = sym (ap (λ a. overOf (classedOf a)) (c .before .a3 .given .1))
+
+pub object-over-spec : {M : Type 1} → statement M
+object-over-spec =
+    tie.close
+    (tie.spec enum-known-a lost-requires enum-known-a-2 enum-known-a-3 returns returns-2 returns-3)
