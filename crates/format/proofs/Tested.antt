@@ -184,7 +184,7 @@ walk-after R p stop (suc n) l (next {j = j} {n = c} x w) =
     rw (a, b) at (walk-after R p stop n (omega arith) w)
 
 module _ (R : List ℕ) where
-  one-closes : (stop k n : ℕ) → closes R stop k (suc n) ≡ true
+  pub one-closes : (stop k n : ℕ) → closes R stop k (suc n) ≡ true
       → (k < col R k colEnd) × (col R k colEnd ≤ stop) × (closes R stop (col R k colEnd) n ≡ true)
   unfolding closes
   one-closes stop k n e =
@@ -207,46 +207,54 @@ module _ (R : List ℕ) where
       rw (ne-eqb k i (λ q. omega arith)) (not-among before p i stop (col R k colEnd) (suc j) n c l)
 
 -- the rows behind p and before k end at k or before
-abbrev Ends : List ℕ → ℕ → ℕ → Type 0
+abbrev pub Ends : List ℕ → ℕ → ℕ → Type 0
 Ends R p k = (q : ℕ) → p < q → q < k → col R q colEnd ≤ k
 
-module _ (R B : List ℕ) (rows : (i : ℕ) → i < rowsIn R → Row R B i) where
-  one-more : (p k : ℕ) → k < col R k colEnd → Ends R p k → Ends R k (col R k colEnd) → Ends R p (col R k colEnd)
-  one-more p k l f g q a b =
-      elim (decLt q k) [
-        | yes h ↦ omega (arith, f q a h)
-        | no h ↦ elim (ℕ-discrete q k) [
-          | yes e ↦ rw e (omega arith)
-          | no e ↦ g q (omega arith) b
-        ]
+pub one-more : (R : List ℕ) (p k : ℕ) → k < col R k colEnd → Ends R p k → Ends R k (col R k colEnd) → Ends R p (col R k colEnd)
+one-more R p k l f g q a b =
+    elim (decLt q k) [
+      | yes h ↦ omega (arith, f q a h)
+      | no h ↦ elim (ℕ-discrete q k) [
+        | yes e ↦ rw e (omega arith)
+        | no e ↦ g q (omega arith) b
       ]
+    ]
 
+-- the children of each of the first `most` rows end with it
+abbrev pub Shut : List ℕ → ℕ → Type 0
+Shut R most = (i : ℕ) → i < most → closes R (col R i colEnd) (suc i) (children R i) ≡ true
+
+module _ (R : List ℕ) (most : ℕ) (closed : Shut R most) where
   -- so do those behind p and before its end
-  walk-ends : (p stop : ℕ) → ((k : ℕ) → p < k → k < stop → Ends R k (col R k colEnd))
+  walk-ends : (p stop : ℕ) → ((k : ℕ) → p < k → k < stop → col R k colEnd ≤ stop → Ends R k (col R k colEnd))
       → (n k : ℕ) → closes R stop k n ≡ true → p < k → Ends R p k → Ends R p stop
   unfolding closes
   walk-ends p stop deeper zero k e l f = rw (eqb-true k stop e) at f
   walk-ends p stop deeper (suc n) k e l f =
       let (a, b, c) = one-closes R stop k n e in
-      walk-ends p stop deeper n (col R k colEnd) c (omega arith) (one-more p k a f (deeper k l (omega arith)))
+      walk-ends p stop deeper n (col R k colEnd) c (omega arith) (one-more R p k a f (deeper k l (omega arith) b))
 
-  row-ends : (d p : ℕ) → rowsIn R ≤ p + d → p < rowsIn R → Ends R p (col R p colEnd)
-  row-ends zero p l h = absurd (omega arith)
-  row-ends (suc d) p l h =
-      walk-ends p (col R p colEnd) (λ k x y. row-ends d k (omega arith) (omega (arith, rows p h .end))) (children R p) (suc p)
-      (rows p h .closed) (omega arith) (λ q x y. absurd (omega arith))
+  pub row-ends : (d p : ℕ) → most ≤ p + d → p < most → col R p colEnd ≤ most → Ends R p (col R p colEnd)
+  row-ends zero p l h u = absurd (omega arith)
+  row-ends (suc d) p l h u =
+      walk-ends p (col R p colEnd) (λ k x y z. row-ends d k (omega arith) (omega arith) (omega arith)) (children R p) (suc p)
+      (closed p h) (omega arith) (λ q x y. absurd (omega arith))
 
   -- what row p gives to row k, the rows between leave to it
-  left : (p k m : ℕ) → k < rowsIn R → Ends R p k → p < m → m ≤ k → given R m k ≡ given R (suc p) k
+  pub left : (p k m : ℕ) → k ≤ most → Ends R p k → p < m → m ≤ k → given R m k ≡ given R (suc p) k
   unfolding given
   left p k zero h f l g = absurd (omega arith)
   left p k (suc m) h f l g =
       elim (ℕ-discrete m p) [
         | yes e ↦ rw e
         | no e ↦
-            not-among R (given R m k) m k (col R m colEnd) (suc m) 0 (children R m) (rows m (omega arith) .closed) (f m (omega arith) (omega arith))
+            not-among R (given R m k) m k (col R m colEnd) (suc m) 0 (children R m) (closed m (omega arith)) (f m (omega arith) (omega arith))
             ∙ left p k m h f (omega arith) (omega arith)
       ]
+
+module _ (R B : List ℕ) (rows : (i : ℕ) → i < rowsIn R → Row R B i) where
+  all-closed : Shut R (rowsIn R)
+  all-closed i h = rows i h .closed
 
   walk-from : (p stop k j n : ℕ) → stop ≤ rowsIn R → closes R stop k n ≡ true → p < k → Ends R p k
       → ((i : ℕ) → k ≤ i → given R (suc p) i ≡ givenIn (given R p i) R p i k j n) → Walk R p stop k j n
@@ -257,8 +265,9 @@ module _ (R B : List ℕ) (rows : (i : ℕ) → i < rowsIn R → Row R B i) wher
       let h : k < rowsIn R = omega arith in
       let own : givenIn (given R p k) R p k k j (suc n) ≡ gives R p j = rw (eq-eqb k k refl) in
       next
-      (record { behind = l; before = a; inside = b; row = h; gift = left p k k h f l (omega arith) ∙ g k (omega arith) ∙ own })
-      (walk-from p stop (col R k colEnd) (suc j) n w c (omega arith) (one-more p k a f (row-ends (rowsIn R) k (omega arith) h))
+      (record { behind = l; before = a; inside = b; row = h; gift = left R (rowsIn R) all-closed p k k (omega arith) f l (omega arith) ∙ g k (omega arith) ∙ own })
+      (walk-from p stop (col R k colEnd) (suc j) n w c (omega arith)
+      (one-more R p k a f (row-ends R (rowsIn R) all-closed (rowsIn R) k (omega arith) h (omega arith)))
       (λ i x. rw (ne-eqb k i (λ q. omega arith)) at (g i (omega arith))))
 
   pub walk-start : (p : ℕ) → p < rowsIn R → Walk R p (col R p colEnd) (suc p) 0 (children R p)

@@ -1,0 +1,96 @@
+-- Made by proofs.py from answers/children.txt: change that file, not this one.
+-- answers f1f3ad9c16be proof e9725293d121
+use native.Mathlib.Omega.{arith}
+use mathlib.Core.Path.{sym, _∙_}
+use Prim.Native.Nat.{_/_}
+use denote.Ref.{now}
+use lib.ListN.{length}
+use borrow.Author.Tests.{eq-eqb, ne-eqb}
+use Rattle.judge.proofs.Counts.{capped-one, capped-pairs, capped-whole}
+use Rattle.format.specs.RowTest.{children}
+use borrow.Author.Needs.{needs}
+use Rattle.judge.proofs.children.Statement.{statement}
+use Rattle.judge.proofs.children.Tie as tie
+use Rattle.judge.proofs.children.Reads as reads
+use Rattle.judge.proofs.children.Lts as lts
+use Rattle.judge.proofs.capped_sum.Reads as capped-sum-reads
+use Rattle.judge.proofs.cell.Reads as cell-reads
+use Rattle.judge.proofs.has_count2.Reads as has-count2-reads
+
+cell-requires : tie.Need-cell-requires
+cell-requires c κs = search needs
+
+cell-requires-2 : tie.Need-cell-requires-2
+cell-requires-2 c κs = search needs
+
+has-count2-requires : tie.Need-has-count2-requires
+has-count2-requires c κs = search needs
+
+cell-requires-3 : tie.Need-cell-requires-3
+cell-requires-3 c κs = search needs
+
+capped-sum-requires : tie.Need-capped-sum-requires
+capped-sum-requires c κs = search needs
+
+returns : tie.Need-returns
+unfolding children
+returns c = sym (simp (
+  sym (c .before .before .before .before .before .cell .ensures),
+  sym (c .before .before .before .before .cell2 .ensures),
+  sym
+      (c .before .before .before .has-count2 .ensures) ∙ c .before .before .if1 .taken,
+  sym (c .before .cell3 .ensures),
+  sym (c .capped-sum .ensures),
+))
+
+capped-sum-requires-2 : tie.Need-capped-sum-requires-2
+capped-sum-requires-2 c κs = search needs
+
+returns-2 : tie.Need-returns-2
+unfolding children
+returns-2 c =
+    c .capped-sum2 .ensures ∙ capped-one _ _ ∙ sym (simp (
+      sym (c .before .before .before .before .before .cell .ensures),
+      sym
+          (c .before .before .before .before .cell2 .ensures),
+      sym (c .before .before .before .has-count2 .ensures) ∙ c .before .before .if1 .left,
+      eq-eqb
+          _ _ (c .before .if2 .taken),
+    ))
+
+capped-sum-requires-3 : tie.Need-capped-sum-requires-3
+capped-sum-requires-3 c κs = search needs
+
+returns-3 : tie.Need-returns-3
+unfolding children
+returns-3 c =
+    let b5 = c .before .before .before .before .before in
+    let b6 = b5 .before in
+    c .capped-sum3 .ensures ∙ capped-pairs _ _
+    ∙ sym (simp (
+      sym (b6 .cell .ensures),
+      sym (b5 .cell2 .ensures),
+      sym (c .before .before .before .before .has-count2 .ensures) ∙
+          c .before .before .before .if1 .left,
+      ne-eqb _ _ (c .before .before .if2 .left),
+      eq-eqb _ _ (c .before .if3 .taken),
+    ))
+
+returns-4 : tie.Need-returns-4
+unfolding children
+returns-4 c =
+    capped-whole (length (now (c .before .before .before .before .before .before .before .args .rows)) / 12) 0 (omega arith)
+    ∙ sym (simp (
+      sym (c .before .before .before .before .before .cell .ensures),
+      sym (c .before .before .before .before .cell2 .ensures),
+      sym
+          (c .before .before .before .has-count2 .ensures) ∙ c .before .before .if1 .left,
+      ne-eqb _ _ (c .before .if2 .left),
+      ne-eqb _ _ (c .if3 .left),
+    ))
+
+pub children-spec : {M : Type 1} → statement M
+children-spec =
+    tie.close
+    (tie.spec cell-requires cell-requires-2 has-count2-requires cell-requires-3 capped-sum-requires returns capped-sum-requires-2 returns-2
+    capped-sum-requires-3 returns-3 returns-4)

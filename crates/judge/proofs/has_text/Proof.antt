@@ -1,0 +1,22 @@
+-- Made by proofs.py from answers/has_text.txt: change that file, not this one.
+-- answers 3795caa03726 proof 95d2526827e6
+use mathlib.Core.Path.{sym}
+use borrow.Author.Tests.{eq-eqb, ne-eqb}
+use Rattle.judge.proofs.has_text.Statement.{statement}
+use Rattle.judge.proofs.has_text.Tie as tie
+use Rattle.judge.proofs.has_text.Reads as reads
+use Rattle.judge.proofs.has_text.Lts as lts
+
+returns : tie.Need-returns
+returns c = sym (simp (eq-eqb _ _ (c .if1 .taken)))
+
+returns-2 : tie.Need-returns-2
+returns-2 c = sym (simp (ne-eqb _ _ (c .before .if1 .left), eq-eqb _ _ (c .if2 .taken)))
+
+returns-3 : tie.Need-returns-3
+returns-3 c = sym (simp (ne-eqb _ _ (c .before .if1 .left), ne-eqb _ _ (c .if2 .left)))
+
+pub has-text-spec : {M : Type 1} → statement M
+has-text-spec =
+    tie.close
+    (tie.spec returns returns-2 returns-3)

@@ -1,0 +1,45 @@
+-- Made by proofs.py from answers/target_fits.txt: change that file, not this one.
+-- answers 9ddac3db276e proof 290aa99af851
+use mathlib.Core.Path.{sym}
+use borrow.Author.Tests.{le-leb, lt-leb, lt-ltb, le-ltb}
+use Rattle.judge.specs.Pass.{targetFits}
+use borrow.Author.Needs.{needs}
+use Rattle.judge.proofs.target_fits.Statement.{statement}
+use Rattle.judge.proofs.target_fits.Tie as tie
+use Rattle.judge.proofs.target_fits.Reads as reads
+use Rattle.judge.proofs.target_fits.Lts as lts
+use Rattle.judge.proofs.cell.Reads as cell-reads
+use Rattle.judge.proofs.is_object.Reads as is-object-reads
+
+returns : tie.Need-returns
+unfolding targetFits
+returns c = sym (simp (le-ltb _ _ (c .if1 .taken)))
+
+cell-requires : tie.Need-cell-requires
+cell-requires c κs = search needs
+
+returns-2 : tie.Need-returns-2
+unfolding targetFits
+returns-2 c = sym (simp (lt-ltb _ _ (c .before .before .if1 .left), sym (c .before .cell .ensures), lt-leb _ _ (c .if2 .taken)))
+
+cell-requires-2 : tie.Need-cell-requires-2
+cell-requires-2 c κs = search needs
+
+is-object-requires : tie.Need-is-object-requires
+is-object-requires c κs = search needs
+
+returns-3 : tie.Need-returns-3
+unfolding targetFits
+returns-3 c = sym (simp (
+  lt-ltb _ _ (c .before .before .before .before .if1 .left),
+  sym (c .before .before .before .cell .ensures),
+  le-leb _ _
+      (c .before .before .if2 .left),
+  sym (c .before .cell2 .ensures),
+  sym (c .is-object .ensures),
+))
+
+pub target-fits-spec : {M : Type 1} → statement M
+target-fits-spec =
+    tie.close
+    (tie.spec returns cell-requires returns-2 cell-requires-2 is-object-requires returns-3)

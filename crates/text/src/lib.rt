@@ -1,0 +1,98 @@
+// Text access: the part of the store that a row's text is, or the caller's own default.
+
+use rows::Span;
+ghost use mathlib.Core.Path.{_≡_};
+ghost use Rattle.format.specs.RowTest.{hasText};
+ghost use Rattle.format.specs.Unfold.{home};
+ghost use Rattle.format.specs.Text.{textIn, textSpan, textOr};
+ghost use Rattle.text.specs.Held.{foundOf, partOr};
+
+const KIND_STRING: usize = 6;
+
+const KIND_XML_DOCUMENT: usize = 7;
+
+const KIND_XML: usize = 11;
+
+const KIND_REFERENCE: usize = 18;
+
+// The span of a row's text, or there is none.
+pub enum Found {
+    Nowhere,
+    At(Span),
+}
+
+fn has_text(kind: usize) -> bool
+    ensures { λ r. ⌜ r ≡ hasText kind ⌝ }
+{
+    if kind == KIND_STRING {
+        return true;
+    }
+    if kind == KIND_XML_DOCUMENT {
+        return true;
+    }
+    kind == KIND_XML
+}
+
+// A reference stands for its target, another row for itself.
+fn home_of(rows: &[usize], row: usize) -> usize
+    ensures { λ r. ⌜ r ≡ home (now (rows .entry)) row ⌝ }
+{
+    if rows::kind_at(rows, row) == KIND_REFERENCE {
+        return rows::number_at(rows, row);
+    }
+    row
+}
+
+// The row has text, and its span lies in the store.
+fn span_of(rows: &[usize], store: &[u8], row: usize) -> Found
+    ensures { λ r. ⌜ foundOf r ≡ textIn (now (rows .entry)) (now (store .entry)) row ⌝ }
+{
+    if has_text(rows::kind_at(rows, row)) {
+        let body = rows::body_at(rows, row);
+        if wire::fits(store.len(), body.begin, body.size) {
+            return Found::At(body);
+        }
+    }
+    Found::Nowhere
+}
+
+// Where the text of a row stands in the store. A reference answers as its target.
+pub fn span(rows: &[usize], store: &[u8], row: usize) -> Found
+    ensures { λ r. ⌜ foundOf r ≡ textSpan (now (rows .entry)) (now (store .entry)) row ⌝ }
+{
+    if rows::loan_fault(rows.len(), store.len(), 0, 0, 0, 0) != 0 {
+        return Found::Nowhere;
+    }
+    span_of(rows, store, home_of(rows, row))
+}
+
+// The part of the store, or the default where there is to be none or it doesn't lie in the store.
+fn part_or<'a>(
+    store: &'a [u8],
+    default: &'a [u8],
+    there: bool,
+    begin: usize,
+    size: usize,
+) -> &'a [u8]
+    ensures { λ r. ⌜ now r ≡ partOr (now (store .entry)) (now (default .entry)) there begin size ⌝ }
+{
+    if there {
+        if wire::fits(store.len(), begin, size) {
+            return &store[begin..begin + size];
+        }
+    }
+    default
+}
+
+// The text of a row: a part of the store, or the default where the row has none.
+pub fn text<'a>(rows: &[usize], store: &'a [u8], row: usize, default: &'a [u8]) -> &'a [u8]
+    ensures { λ r. ⌜ now r ≡ textOr (now (rows .entry)) (now (store .entry)) row (now (default .entry)) ⌝ }
+{
+    if rows::loan_fault(rows.len(), store.len(), 0, 0, 0, 0) != 0 {
+        return default;
+    }
+    let home = home_of(rows, row);
+    let there = has_text(rows::kind_at(rows, home));
+    let body = rows::body_at(rows, home);
+    part_or(store, default, there, body.begin, body.size)
+}

@@ -1,0 +1,4 @@
+pub mod Loops
+pub mod Messages
+pub mod Splits
+pub mod Values

@@ -1,0 +1,776 @@
+// The whole reading of a message: the readers of a value, an array, an object, a vector and a dictionary, and the loops over their entries, in one cycle of
+// calls over the remaining depth; above them `read`.
+
+use decide::Begun;
+use decide::Body;
+use decide::Done;
+use decide::Keyed;
+use decide::Kind;
+use decide::Text;
+use decide::Width;
+use format::Answer;
+use parts::Classed;
+use parts::Number;
+use parts::Sized;
+use rows::Cursor;
+use rows::Key;
+use rows::Span;
+use rows::Trait;
+ghost use mathlib.Core.Path.{_≡_};
+ghost use Prim.Native.Nat.{_^_, _<_};
+ghost use Rattle.rows.specs.Memory.{memory, zeroed, noKey, keyOf, colCount, colCount2, messageLimit};
+ghost use Rattle.decide.specs.Held.{doneOf, kindIn, bodyIn};
+ghost use Rattle.format.specs.Decide as d;
+ghost use Rattle.format.specs.Reading as r;
+ghost use Rattle.format.specs.Answers.{read, readCall};
+ghost use Rattle.parts.specs.Held.{result, reads, couple, sealedMember};
+
+const MESSAGE_LIMIT: usize = 262144;
+
+const OPEN_LIMIT: usize = 64;
+
+const COL_COUNT: usize = 9;
+
+const COL_COUNT2: usize = 10;
+
+const WRONG_LOAN: usize = 1;
+
+// ---- keys
+
+fn no_key() -> Key
+    ensures { λ x. ⌜ x ≡ noKey ⌝ }
+{
+    Key {
+        mark: 0,
+        begin: 0,
+        size: 0,
+    }
+}
+
+fn key_of(s: Span) -> Key
+    ensures { λ x. ⌜ x ≡ keyOf s ⌝ }
+{
+    Key {
+        mark: 1,
+        begin: s.begin,
+        size: s.size,
+    }
+}
+
+// ---- entries
+
+// Values with no key.
+fn items(
+    message: &[u8],
+    rows: &mut [usize],
+    store: &mut [u8],
+    strings: &mut [usize],
+    objects: &mut [usize],
+    traits: &mut [usize],
+    names: &mut [usize],
+    c: Cursor,
+    row: usize,
+    col: usize,
+    n: usize,
+    left: usize,
+) -> Done
+    ensures { λ x. ⌜ result (doneOf x) (memory (now (rows .exit)) (now (store .exit)) (now (strings .exit)) (now (objects .exit)) (now (traits .exit)) (now (names .exit))) (now (message .entry)) ≡ reads (r.entries (λ done. r.value left noKey) row col n 0) (memory (now (rows .entry)) (now (store .entry)) (now (strings .entry)) (now (objects .entry)) (now (traits .entry)) (now (names .entry))) c (now (message .entry)) ⌝ }
+{
+    let mut cur = c;
+    let mut i = 0;
+    while i < n {
+        let a = value(
+            message,
+            rows,
+            store,
+            strings,
+            objects,
+            traits,
+            names,
+            cur,
+            no_key(),
+            left,
+        );
+        let Done::Fine(c1) = a else {
+            return a;
+        };
+        let b = decide::counted(rows, c1, row, col, i);
+        let Done::Fine(c2) = b else {
+            return b;
+        };
+        cur = c2;
+        i += 1;
+    }
+    Done::Fine(cur)
+}
+
+// Entries of a key and a value, both values.
+fn couples(
+    message: &[u8],
+    rows: &mut [usize],
+    store: &mut [u8],
+    strings: &mut [usize],
+    objects: &mut [usize],
+    traits: &mut [usize],
+    names: &mut [usize],
+    c: Cursor,
+    row: usize,
+    n: usize,
+    left: usize,
+) -> Done
+    ensures { λ x. ⌜ result (doneOf x) (memory (now (rows .exit)) (now (store .exit)) (now (strings .exit)) (now (objects .exit)) (now (traits .exit)) (now (names .exit))) (now (message .entry)) ≡ reads (r.entries (λ done. couple (r.value left)) row colCount n 0) (memory (now (rows .entry)) (now (store .entry)) (now (strings .entry)) (now (objects .entry)) (now (traits .entry)) (now (names .entry))) c (now (message .entry)) ⌝ }
+{
+    let mut cur = c;
+    let mut i = 0;
+    while i < n {
+        let a = value(
+            message,
+            rows,
+            store,
+            strings,
+            objects,
+            traits,
+            names,
+            cur,
+            no_key(),
+            left,
+        );
+        let Done::Fine(c1) = a else {
+            return a;
+        };
+        let b = value(
+            message,
+            rows,
+            store,
+            strings,
+            objects,
+            traits,
+            names,
+            c1,
+            no_key(),
+            left,
+        );
+        let Done::Fine(c2) = b else {
+            return b;
+        };
+        let e = decide::counted(rows, c2, row, COL_COUNT, i);
+        let Done::Fine(c3) = e else {
+            return e;
+        };
+        cur = c3;
+        i += 1;
+    }
+    Done::Fine(cur)
+}
+
+// Sealed members, their keys the names of the trait.
+fn sealed(
+    message: &[u8],
+    rows: &mut [usize],
+    store: &mut [u8],
+    strings: &mut [usize],
+    objects: &mut [usize],
+    traits: &mut [usize],
+    names: &mut [usize],
+    c: Cursor,
+    row: usize,
+    t: Trait,
+    left: usize,
+) -> Done
+    ensures { λ x. ⌜ result (doneOf x) (memory (now (rows .exit)) (now (store .exit)) (now (strings .exit)) (now (objects .exit)) (now (traits .exit)) (now (names .exit))) (now (message .entry)) ≡ reads (r.entries (sealedMember (r.value left) t) row colCount (t .count) 0) (memory (now (rows .entry)) (now (store .entry)) (now (strings .entry)) (now (objects .entry)) (now (traits .entry)) (now (names .entry))) c (now (message .entry)) ⌝ }
+{
+    let mut cur = c;
+    let mut i = 0;
+    let mut name = t.first;
+    while i < t.count {
+        let k = decide::sealed_key(names, cur, name);
+        let Keyed::With(key, c1) = k else {
+            return Done::Refused(decide::no_key(k));
+        };
+        let a = value(
+            message,
+            rows,
+            store,
+            strings,
+            objects,
+            traits,
+            names,
+            c1,
+            key,
+            left,
+        );
+        let Done::Fine(c2) = a else {
+            return a;
+        };
+        let b = decide::counted(rows, c2, row, COL_COUNT, i);
+        let Done::Fine(c3) = b else {
+            return b;
+        };
+        cur = c3;
+        i += 1;
+        name += 1;
+    }
+    Done::Fine(cur)
+}
+
+// Pairs of a key and a value, up to the empty key.
+fn pairs(
+    message: &[u8],
+    rows: &mut [usize],
+    store: &mut [u8],
+    strings: &mut [usize],
+    objects: &mut [usize],
+    traits: &mut [usize],
+    names: &mut [usize],
+    c: Cursor,
+    row: usize,
+    col: usize,
+    left: usize,
+) -> Done
+    ensures { λ x. ⌜ result (doneOf x) (memory (now (rows .exit)) (now (store .exit)) (now (strings .exit)) (now (objects .exit)) (now (traits .exit)) (now (names .exit))) (now (message .entry)) ≡ reads (r.pairs (r.value left) row col messageLimit 0) (memory (now (rows .entry)) (now (store .entry)) (now (strings .entry)) (now (objects .entry)) (now (traits .entry)) (now (names .entry))) c (now (message .entry)) ⌝ }
+{
+    let mut cur = c;
+    let mut i = 0;
+    while i < MESSAGE_LIMIT {
+        let k = parts::text(message, store, strings, cur);
+        let Text::Have(s, c1) = k else {
+            return Done::Refused(decide::no_text(k));
+        };
+        if s.size == 0 {
+            return Done::Fine(c1);
+        }
+        let a = value(
+            message,
+            rows,
+            store,
+            strings,
+            objects,
+            traits,
+            names,
+            c1,
+            key_of(s),
+            left,
+        );
+        let Done::Fine(c2) = a else {
+            return a;
+        };
+        let b = decide::counted(rows, c2, row, col, i);
+        let Done::Fine(c3) = b else {
+            return b;
+        };
+        cur = c3;
+        i += 1;
+    }
+    Done::Refused(decide::lost())
+}
+
+// ---- containers
+
+fn array(
+    message: &[u8],
+    rows: &mut [usize],
+    store: &mut [u8],
+    strings: &mut [usize],
+    objects: &mut [usize],
+    traits: &mut [usize],
+    names: &mut [usize],
+    c: Cursor,
+    row: usize,
+    n: usize,
+    left: usize,
+) -> Done
+    ensures { λ x. ⌜ result (doneOf x) (memory (now (rows .exit)) (now (store .exit)) (now (strings .exit)) (now (objects .exit)) (now (traits .exit)) (now (names .exit))) (now (message .entry)) ≡ reads (r.newOf (r.value left) row d.array n) (memory (now (rows .entry)) (now (store .entry)) (now (strings .entry)) (now (objects .entry)) (now (traits .entry)) (now (names .entry))) c (now (message .entry)) ⌝ }
+{
+    let a = pairs(
+        message,
+        rows,
+        store,
+        strings,
+        objects,
+        traits,
+        names,
+        c,
+        row,
+        COL_COUNT,
+        left,
+    );
+    let Done::Fine(c1) = a else {
+        return a;
+    };
+    let b = items(
+        message,
+        rows,
+        store,
+        strings,
+        objects,
+        traits,
+        names,
+        c1,
+        row,
+        COL_COUNT2,
+        n,
+        left,
+    );
+    let Done::Fine(c2) = b else {
+        return b;
+    };
+    decide::closed(rows, c2, row)
+}
+
+fn object_members(
+    message: &[u8],
+    rows: &mut [usize],
+    store: &mut [u8],
+    strings: &mut [usize],
+    objects: &mut [usize],
+    traits: &mut [usize],
+    names: &mut [usize],
+    c: Cursor,
+    row: usize,
+    t: Trait,
+    left: usize,
+) -> Done
+    ensures { λ x. ⌜ result (doneOf x) (memory (now (rows .exit)) (now (store .exit)) (now (strings .exit)) (now (objects .exit)) (now (traits .exit)) (now (names .exit))) (now (message .entry)) ≡ reads (r.members (r.value left) row t) (memory (now (rows .entry)) (now (store .entry)) (now (strings .entry)) (now (objects .entry)) (now (traits .entry)) (now (names .entry))) c (now (message .entry)) ⌝ }
+{
+    let a = sealed(
+        message,
+        rows,
+        store,
+        strings,
+        objects,
+        traits,
+        names,
+        c,
+        row,
+        t,
+        left,
+    );
+    let Done::Fine(c1) = a else {
+        return a;
+    };
+    if t.dynamic == 0 {
+        return decide::closed(rows, c1, row);
+    }
+    let b = pairs(
+        message,
+        rows,
+        store,
+        strings,
+        objects,
+        traits,
+        names,
+        c1,
+        row,
+        COL_COUNT2,
+        left,
+    );
+    let Done::Fine(c2) = b else {
+        return b;
+    };
+    decide::closed(rows, c2, row)
+}
+
+fn object(
+    message: &[u8],
+    rows: &mut [usize],
+    store: &mut [u8],
+    strings: &mut [usize],
+    objects: &mut [usize],
+    traits: &mut [usize],
+    names: &mut [usize],
+    c: Cursor,
+    row: usize,
+    left: usize,
+) -> Done
+    ensures { λ x. ⌜ result (doneOf x) (memory (now (rows .exit)) (now (store .exit)) (now (strings .exit)) (now (objects .exit)) (now (traits .exit)) (now (names .exit))) (now (message .entry)) ≡ reads (r.marked (r.value left) row d.object) (memory (now (rows .entry)) (now (store .entry)) (now (strings .entry)) (now (objects .entry)) (now (traits .entry)) (now (names .entry))) c (now (message .entry)) ⌝ }
+{
+    let h = parts::object_head(
+        message,
+        rows,
+        store,
+        strings,
+        objects,
+        traits,
+        names,
+        c,
+        row,
+    );
+    let Classed::Of(t, c1) = h else {
+        return parts::object_over(h);
+    };
+    object_members(
+        message,
+        rows,
+        store,
+        strings,
+        objects,
+        traits,
+        names,
+        c1,
+        row,
+        t,
+        left,
+    )
+}
+
+// A vector of objects.
+fn vector(
+    message: &[u8],
+    rows: &mut [usize],
+    store: &mut [u8],
+    strings: &mut [usize],
+    objects: &mut [usize],
+    traits: &mut [usize],
+    names: &mut [usize],
+    c: Cursor,
+    row: usize,
+    n: usize,
+    left: usize,
+) -> Done
+    ensures { λ x. ⌜ result (doneOf x) (memory (now (rows .exit)) (now (store .exit)) (now (strings .exit)) (now (objects .exit)) (now (traits .exit)) (now (names .exit))) (now (message .entry)) ≡ reads (r.newOf (r.value left) row d.objects n) (memory (now (rows .entry)) (now (store .entry)) (now (strings .entry)) (now (objects .entry)) (now (traits .entry)) (now (names .entry))) c (now (message .entry)) ⌝ }
+{
+    let a = parts::vector_head(message, rows, store, strings, c, row);
+    let Done::Fine(c1) = a else {
+        return a;
+    };
+    let b = items(
+        message,
+        rows,
+        store,
+        strings,
+        objects,
+        traits,
+        names,
+        c1,
+        row,
+        COL_COUNT,
+        n,
+        left,
+    );
+    let Done::Fine(c2) = b else {
+        return b;
+    };
+    decide::closed(rows, c2, row)
+}
+
+fn dictionary(
+    message: &[u8],
+    rows: &mut [usize],
+    store: &mut [u8],
+    strings: &mut [usize],
+    objects: &mut [usize],
+    traits: &mut [usize],
+    names: &mut [usize],
+    c: Cursor,
+    row: usize,
+    n: usize,
+    left: usize,
+) -> Done
+    ensures { λ x. ⌜ result (doneOf x) (memory (now (rows .exit)) (now (store .exit)) (now (strings .exit)) (now (objects .exit)) (now (traits .exit)) (now (names .exit))) (now (message .entry)) ≡ reads (r.newOf (r.value left) row d.dictionary n) (memory (now (rows .entry)) (now (store .entry)) (now (strings .entry)) (now (objects .entry)) (now (traits .entry)) (now (names .entry))) c (now (message .entry)) ⌝ }
+{
+    let a = parts::weak_flag(message, rows, c, row);
+    let Done::Fine(c1) = a else {
+        return a;
+    };
+    let b = couples(
+        message,
+        rows,
+        store,
+        strings,
+        objects,
+        traits,
+        names,
+        c1,
+        row,
+        n,
+        left,
+    );
+    let Done::Fine(c2) = b else {
+        return b;
+    };
+    decide::closed(rows, c2, row)
+}
+
+// ---- values
+
+// A new value, its size word read.
+fn new_value(
+    message: &[u8],
+    rows: &mut [usize],
+    store: &mut [u8],
+    strings: &mut [usize],
+    objects: &mut [usize],
+    traits: &mut [usize],
+    names: &mut [usize],
+    c: Cursor,
+    row: usize,
+    body: Body,
+    n: usize,
+    left: usize,
+) -> Done
+    requires { ⌜ n < 2 ^ 29 ⌝ }
+    ensures { λ x. ⌜ result (doneOf x) (memory (now (rows .exit)) (now (store .exit)) (now (strings .exit)) (now (objects .exit)) (now (traits .exit)) (now (names .exit))) (now (message .entry)) ≡ reads (r.newOf (r.value left) row (bodyIn body) n) (memory (now (rows .entry)) (now (store .entry)) (now (strings .entry)) (now (objects .entry)) (now (traits .entry)) (now (names .entry))) c (now (message .entry)) ⌝ }
+{
+    match body {
+        Body::Xml => parts::xml(message, rows, store, c, row, n),
+        Body::Date => parts::date(message, rows, c, row),
+        Body::Array => array(
+            message,
+            rows,
+            store,
+            strings,
+            objects,
+            traits,
+            names,
+            c,
+            row,
+            n,
+            left,
+        ),
+        Body::Bytes => parts::bytes(message, rows, store, c, row, n),
+        Body::Objects => vector(
+            message,
+            rows,
+            store,
+            strings,
+            objects,
+            traits,
+            names,
+            c,
+            row,
+            n,
+            left,
+        ),
+        Body::Dictionary => dictionary(
+            message,
+            rows,
+            store,
+            strings,
+            objects,
+            traits,
+            names,
+            c,
+            row,
+            n,
+            left,
+        ),
+        Body::RawFour => parts::raw(message, rows, store, c, row, Width::Four, n),
+        Body::RawEight => parts::raw(message, rows, store, c, row, Width::Eight, n),
+    }
+}
+
+// A value that begins with a size word.
+fn sized_value(
+    message: &[u8],
+    rows: &mut [usize],
+    store: &mut [u8],
+    strings: &mut [usize],
+    objects: &mut [usize],
+    traits: &mut [usize],
+    names: &mut [usize],
+    c: Cursor,
+    row: usize,
+    body: Body,
+    left: usize,
+) -> Done
+    ensures { λ x. ⌜ result (doneOf x) (memory (now (rows .exit)) (now (store .exit)) (now (strings .exit)) (now (objects .exit)) (now (traits .exit)) (now (names .exit))) (now (message .entry)) ≡ reads (r.marked (r.value left) row (d.sized (bodyIn body))) (memory (now (rows .entry)) (now (store .entry)) (now (strings .entry)) (now (objects .entry)) (now (traits .entry)) (now (names .entry))) c (now (message .entry)) ⌝ }
+{
+    let h = parts::size_head(message, rows, objects, c, row);
+    let Sized::New(n, c1) = h else {
+        return parts::over(h);
+    };
+    new_value(
+        message,
+        rows,
+        store,
+        strings,
+        objects,
+        traits,
+        names,
+        c1,
+        row,
+        body,
+        n,
+        left,
+    )
+}
+
+// What a marker is followed by.
+fn marked(
+    message: &[u8],
+    rows: &mut [usize],
+    store: &mut [u8],
+    strings: &mut [usize],
+    objects: &mut [usize],
+    traits: &mut [usize],
+    names: &mut [usize],
+    c: Cursor,
+    row: usize,
+    b: usize,
+    left: usize,
+) -> Done
+    ensures { λ x. ⌜ result (doneOf x) (memory (now (rows .exit)) (now (store .exit)) (now (strings .exit)) (now (objects .exit)) (now (traits .exit)) (now (names .exit))) (now (message .entry)) ≡ reads (r.marked (r.value left) row (d.kindOf b)) (memory (now (rows .entry)) (now (store .entry)) (now (strings .entry)) (now (objects .entry)) (now (traits .entry)) (now (names .entry))) c (now (message .entry)) ⌝ }
+{
+    let kind = decide::kind_of(b);
+    match kind {
+        Kind::Leaf => Done::Fine(c),
+        Kind::Integer => parts::integer(message, rows, c, row),
+        Kind::Double => parts::double(message, rows, c, row),
+        Kind::String => parts::string(message, rows, store, strings, c, row),
+        Kind::Object => object(
+            message,
+            rows,
+            store,
+            strings,
+            objects,
+            traits,
+            names,
+            c,
+            row,
+            left,
+        ),
+        Kind::Sized => sized_value(
+            message,
+            rows,
+            store,
+            strings,
+            objects,
+            traits,
+            names,
+            c,
+            row,
+            decide::body_of(b),
+            left,
+        ),
+    }
+}
+
+// A value, where `left` may still open.
+fn value(
+    message: &[u8],
+    rows: &mut [usize],
+    store: &mut [u8],
+    strings: &mut [usize],
+    objects: &mut [usize],
+    traits: &mut [usize],
+    names: &mut [usize],
+    c: Cursor,
+    key: Key,
+    left: usize,
+) -> Done
+    ensures { λ x. ⌜ result (doneOf x) (memory (now (rows .exit)) (now (store .exit)) (now (strings .exit)) (now (objects .exit)) (now (traits .exit)) (now (names .exit))) (now (message .entry)) ≡ reads (r.value left key) (memory (now (rows .entry)) (now (store .entry)) (now (strings .entry)) (now (objects .entry)) (now (traits .entry)) (now (names .entry))) c (now (message .entry)) ⌝ }
+{
+    let w = parts::byte(message, c);
+    let Number::Whole(b, c1) = w else {
+        return Done::Refused(parts::no_number(w));
+    };
+    let g = decide::marker(rows, c1, key, left, b);
+    let Begun::Row(row, c2) = g else {
+        return Done::Refused(decide::no_row(g));
+    };
+    if left == 0 {
+        return Done::Refused(decide::lost());
+    }
+    marked(
+        message,
+        rows,
+        store,
+        strings,
+        objects,
+        traits,
+        names,
+        c2,
+        row,
+        b,
+        left - 1,
+    )
+}
+
+// ---- messages
+
+// Every loan set to zero.
+fn clear(
+    rows: &mut [usize],
+    store: &mut [u8],
+    strings: &mut [usize],
+    objects: &mut [usize],
+    traits: &mut [usize],
+    names: &mut [usize],
+)
+    ensures { λ x. ⌜ (memory (now (rows .exit)) (now (store .exit)) (now (strings .exit)) (now (objects .exit)) (now (traits .exit)) (now (names .exit))) ≡ zeroed (memory (now (rows .entry)) (now (store .entry)) (now (strings .entry)) (now (objects .entry)) (now (traits .entry)) (now (names .entry))) ⌝ }
+{
+    rows::zero(rows);
+    rows::zero_bytes(store);
+    rows::zero(strings);
+    rows::zero(objects);
+    rows::zero(traits);
+    rows::zero(names);
+}
+
+// The whole message, read into loans that were lent for it: a refusal leaves them zero, but for 1, which leaves them as found.
+pub fn read(
+    rows: &mut [usize],
+    store: &mut [u8],
+    strings: &mut [usize],
+    objects: &mut [usize],
+    traits: &mut [usize],
+    names: &mut [usize],
+    message: &[u8],
+) -> Answer
+    ensures { λ x. ⌜ read x (memory (now (rows .exit)) (now (store .exit)) (now (strings .exit)) (now (objects .exit)) (now (traits .exit)) (now (names .exit))) ≡ readCall (memory (now (rows .entry)) (now (store .entry)) (now (strings .entry)) (now (objects .entry)) (now (traits .entry)) (now (names .entry))) (now (message .entry)) ⌝ }
+{
+    let fault = rows::loan_fault(
+        rows.len(),
+        store.len(),
+        strings.len(),
+        objects.len(),
+        traits.len(),
+        names.len(),
+    );
+    if fault != 0 {
+        return Answer::Refused {
+            no: WRONG_LOAN,
+            told: fault,
+            place: 0,
+            taken: 0,
+        };
+    }
+    clear(rows, store, strings, objects, traits, names);
+    let fresh = Cursor {
+        at: 0,
+        rows: 0,
+        store: 0,
+        strings: 0,
+        objects: 0,
+        traits: 0,
+        names: 0,
+    };
+    let a = value(
+        message,
+        rows,
+        store,
+        strings,
+        objects,
+        traits,
+        names,
+        fresh,
+        no_key(),
+        OPEN_LIMIT,
+    );
+    match a {
+        Done::Fine(c) => Answer::Finished {
+            rows: c.rows,
+            bytes: c.store,
+            taken: c.at,
+        },
+        Done::Refused(refusal) => {
+            clear(rows, store, strings, objects, traits, names);
+            Answer::Refused {
+                no: refusal.number,
+                told: refusal.told,
+                place: refusal.place,
+                taken: 0,
+            }
+        }
+    }
+}
