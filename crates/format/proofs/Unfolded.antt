@@ -30,23 +30,23 @@ use Rattle.format.proofs.Loans.{lent}
 
 -- ---- as many as the counts say
 
-trees-count : (f : ℕ → Tree) (R : List ℕ) (k n : ℕ) → count (treesAt f R k n) ≡ n
+pub trees-count : (f : ℕ → Tree) (R : List ℕ) (k n : ℕ) → count (treesAt f R k n) ≡ n
 unfolding count treesAt
 trees-count f R k zero = refl
 trees-count f R k (suc n) = ap suc (trees-count f R (col R k colEnd) n)
 
-pairs-count : (f : ℕ → Tree) (R B : List ℕ) (k n : ℕ) → countPairs (pairsAt f R B k n) ≡ n
+pub pairs-count : (f : ℕ → Tree) (R B : List ℕ) (k n : ℕ) → countPairs (pairsAt f R B k n) ≡ n
 unfolding countPairs pairsAt
 pairs-count f R B k zero = refl
 pairs-count f R B k (suc n) = ap suc (pairs-count f R B (col R k colEnd) n)
 
-entries-count : (f : ℕ → Tree) (R : List ℕ) (k n : ℕ) → countEntries (entriesAt f R k n) ≡ n
+pub entries-count : (f : ℕ → Tree) (R : List ℕ) (k n : ℕ) → countEntries (entriesAt f R k n) ≡ n
 unfolding countEntries entriesAt
 entries-count f R k zero = refl
 entries-count f R k (suc n) = ap suc (entries-count f R (col R (col R k colEnd) colEnd) n)
 
 -- a column that a U29 can say, as the number that it stands for
-column-small : (n : ℕ) → signedFits 28 n ≡ true → mag (ofColumn n) < 2 ^ 28
+pub column-small : (n : ℕ) → signedFits 28 n ≡ true → mag (ofColumn n) < 2 ^ 28
 unfolding signedFits ofColumn
 column-small n e = by (ltb n (2 ^ 28)) refl e
   where
