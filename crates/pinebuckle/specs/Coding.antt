@@ -1,0 +1,42 @@
+-- The answers of the calls as C has them.
+use mathlib.Core.List.{List}
+use Prim.Native.Nat.{ℕ}
+use Rattle.rows.specs.Memory.{Memory}
+use Rattle.format.specs.declared.Answer.{Answer}
+use Rattle.format.specs.declared.Answer.the-variants.{Waiting, Finished, Refused}
+use Rattle.format.specs.declared.Written.{Written}
+use Rattle.format.specs.declared.Written.the-variants.{Bytes, Unwritten}
+use Rattle.format.specs.Answers.{Read, read, Output, output}
+use Rattle.format.specs.Text.{Found, nowhere, found}
+use Rattle.pinebuckle.specs.declared.Coded.{Coded}
+use Rattle.pinebuckle.specs.declared.Place.{Place}
+
+-- kind 0 waiting, 1 finished, 2 refused; numbers without meaning are 0
+abbrev pub code : ℕ → ℕ → ℕ → ℕ → ℕ → ℕ → ℕ → Coded
+code kind number told place rows bytes taken = record { kind = kind; no = number; told = told; place = place; rows = rows; bytes = bytes; taken = taken }
+
+abbrev pub codeOf : Answer → Coded
+codeOf (Waiting taken) = code 0 0 0 0 0 0 taken
+codeOf (Finished rows bytes taken) = code 1 0 0 0 rows bytes taken
+codeOf (Refused number told place taken) = code 2 number told place 0 0 taken
+
+abbrev pub writtenCode : Written → Coded
+writtenCode (Bytes n) = code 1 0 0 0 0 n 0
+writtenCode (Unwritten number told place) = code 2 number told place 0 0 0
+
+-- an answer with the loans, with the output, that it left
+pub data Left : Type 0 where
+  left : Coded → Memory → Left
+
+abbrev pub codedRead : Read → Left
+codedRead (read a m) = left (codeOf a) m
+
+pub data Wrote : Type 0 where
+  put : Coded → List ℕ → Wrote
+
+abbrev pub codedWrite : Output → Wrote
+codedWrite (output a out) = put (writtenCode a) out
+
+abbrev pub spanCode : Found → Place
+spanCode nowhere = record { found = 0; begin = 0; length = 0 }
+spanCode (found begin size) = record { found = 1; begin = begin; length = size }

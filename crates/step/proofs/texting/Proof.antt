@@ -1,0 +1,37 @@
+-- Made by proofs.py from answers/texting.txt: change that file, not this one.
+-- answers 5b9400e1c849 proof 3d50884383f6
+use Rattle.format.specs.Numbers.{workOf}
+use Rattle.step.proofs.Settled.{waits, same}
+use Rattle.step.proofs.Amounts.{no-text, more-text}
+use borrow.Author.Needs.{needs}
+use Rattle.step.proofs.texting.Statement.{statement}
+use Rattle.step.proofs.texting.Tie as tie
+use Rattle.step.proofs.texting.Reads as reads
+use Rattle.step.proofs.texting.Lts as lts
+use Rattle.step.proofs.close.Reads as close-reads
+use Rattle.step.proofs.row_work.Reads as row-work-reads
+
+close-requires : tie.Need-close-requires
+close-requires c κs = search needs
+
+same-length : tie.Need-same-length
+same-length c = search needs
+
+returns : tie.Need-returns
+returns c = λ B T O U. same _ _ _ _ (c .before .before .close .ensures B T O U) (no-text _ _ _ _ _ _
+    (c .before .before .before .before .before .if1 .taken))
+
+sub-row-work : tie.Need-sub-row-work
+sub-row-work c = search needs
+
+row-work-requires : tie.Need-row-work-requires
+row-work-requires c κs = search needs
+
+returns-2 : tie.Need-returns-2
+unfolding workOf
+returns-2 c = λ B T O U. same _ _ _ _ (waits _ _ _ _ _ _ (c .row-work .ensures)) (more-text _ _ _ _ _ _ (c .before .if1 .left))
+
+pub texting-spec : {M : Type 1} → statement M
+texting-spec =
+    tie.close
+    (tie.spec close-requires same-length returns sub-row-work row-work-requires returns-2)
