@@ -10,115 +10,29 @@
 // `u32` and `u64`, shifts and casts of `i32` and `i64`, `from_bits`, `to_bits` and casts of `f64`, and `String::from_utf8`, whose error
 // tells a text that is cut from one that no more bytes can mend. The first lines of leaves.txt have the form of each kind.
 
-use libc::STDOUT_FILENO;
+use lines::Tally;
+use lines::Word;
 use wire::Bits;
 use wire::Date;
 use wire::Part;
 use wire::Put;
 use wire::Read;
 ghost use mathlib.Core.Path.{_≡_};
-ghost use Prim.Native.Nat.{_≤_};
 ghost use lib.ListN.{length};
 
 // ---- the words of a line
-
-// A number that stands in a line, with the place behind it and its blank.
-enum Word {
-    Of(usize, usize),
-    Missing,
-}
-
-fn wide(x: u8) -> usize {
-    x as usize
-}
-
-// A hexadecimal digit, or 16 for any other byte.
-fn digit(b: u8) -> u8 {
-    match b {
-        b'0'..=b'9' => b - b'0',
-        b'a'..=b'f' => b - 87,
-        _ => 16,
-    }
-}
-
-// The place behind the blank or line end at `at`.
-fn behind(line: &[u8], at: usize) -> usize {
-    if at < line.len() {
-        return at + 1;
-    }
-    at
-}
-
-// The hexadecimal number at `at`.
-fn number(line: &[u8], at: usize) -> Word {
-    let mut n: usize = 0;
-    let mut p = at;
-    while p < line.len() {
-        let d = digit(line[p]);
-        if 15 < d {
-            break;
-        }
-        n = (n << 4usize) | wide(d);
-        p += 1;
-    }
-    if p == at {
-        return Word::Missing;
-    }
-    Word::Of(n, behind(line, p))
-}
-
-// Puts the bytes that stand at `at`, two digits each, into `out`. The number is how many there are, perhaps none.
-fn bytes(line: &[u8], at: usize, out: &mut [u8]) -> Word {
-    let mut n: usize = 0;
-    let mut p = at;
-    while p < line.len() {
-        let high = digit(line[p]);
-        if 15 < high {
-            break;
-        }
-        p += 1;
-        if line.len() <= p {
-            return Word::Missing;
-        }
-        let low = digit(line[p]);
-        if 15 < low {
-            return Word::Missing;
-        }
-        p += 1;
-        if out.len() <= n {
-            return Word::Missing;
-        }
-        out[n] = (high << 4u8) | low;
-        n += 1;
-    }
-    Word::Of(n, behind(line, p))
-}
-
-fn same(a: &[u8], b: &[u8]) -> bool {
-    if a.len() != b.len() {
-        return false;
-    }
-    let mut i = 0;
-    while i < a.len() {
-        if a[i] != b[i] {
-            return false;
-        }
-        i += 1;
-    }
-    true
-}
 
 // Whether `rest` is what stands from `at` to the line's end.
 fn rest_is(line: &[u8], at: usize, rest: &[u8]) -> bool {
     if line.len() < at {
         return false;
     }
-    same(&line[at..], rest)
+    lines::same(&line[at..], rest)
 }
 
 // Whether the last word, at `at`, is the number `n`.
 fn last_is(line: &[u8], at: usize, n: usize) -> bool {
-    let Word::Of(x, end) = number(line, at) else {
+    let Word::Of(x, end) = lines::number(line, at) else {
         return false;
     };
     x == n && end == line.len()
@@ -176,7 +90,7 @@ fn answers(line: &[u8], at: usize, r: Read) -> bool {
     let Read::Value(n, next) = r else {
         return rest_is(line, at, b"short\n");
     };
-    let Word::Of(x, p) = number(line, at) else {
+    let Word::Of(x, p) = lines::number(line, at) else {
         return false;
     };
     x == n && last_is(line, p, next)
@@ -185,10 +99,10 @@ fn answers(line: &[u8], at: usize, r: Read) -> bool {
 // BYTES AT, and the answer
 fn read_right(form: Form, line: &[u8], from: usize) -> bool {
     let mut src = [0u8; 64];
-    let Word::Of(len, p) = bytes(line, from, &mut src) else {
+    let Word::Of(len, p) = lines::bytes(line, from, &mut src) else {
         return false;
     };
-    let Word::Of(at, q) = number(line, p) else {
+    let Word::Of(at, q) = lines::number(line, p) else {
         return false;
     };
     if 64 < len {
@@ -227,7 +141,7 @@ fn put_whole(form: Form, n: usize, form_bytes: &[u8]) -> bool {
     let Put::At(next) = put_as(form, &mut room, at, n) else {
         return false;
     };
-    next == 10 && is_filling(&room[0..at]) && same(&room[at..], form_bytes)
+    next == 10 && is_filling(&room[0..at]) && lines::same(&room[at..], form_bytes)
 }
 
 // Whether `n`, of `len` bytes, is refused where one of them has no room, and nothing changes.
@@ -244,11 +158,11 @@ fn put_refused(form: Form, n: usize, len: usize) -> bool {
 
 // VALUE BYTES
 fn put_right(form: Form, line: &[u8], from: usize) -> bool {
-    let Word::Of(n, p) = number(line, from) else {
+    let Word::Of(n, p) = lines::number(line, from) else {
         return false;
     };
     let mut form_bytes = [0u8; 64];
-    let Word::Of(len, end) = bytes(line, p, &mut form_bytes) else {
+    let Word::Of(len, end) = lines::bytes(line, p, &mut form_bytes) else {
         return false;
     };
     if end != line.len() {
@@ -264,7 +178,7 @@ fn put_right(form: Form, line: &[u8], from: usize) -> bool {
 
 // U29 COLUMN
 fn integer_right(line: &[u8], from: usize) -> bool {
-    let Word::Of(n, p) = number(line, from) else {
+    let Word::Of(n, p) = lines::number(line, from) else {
         return false;
     };
     last_is(line, p, wire::column(wire::integer(n)))
@@ -272,7 +186,7 @@ fn integer_right(line: &[u8], from: usize) -> bool {
 
 // COLUMN U29, or COLUMN outside
 fn integer_bits_right(line: &[u8], from: usize) -> bool {
-    let Word::Of(column, p) = number(line, from) else {
+    let Word::Of(column, p) = lines::number(line, from) else {
         return false;
     };
     match wire::integer_bits(wire::of_column(column)) {
@@ -287,7 +201,7 @@ fn column_right(line: &[u8], from: usize) -> bool {
         return false;
     }
     let sign = line[from];
-    let Word::Of(magnitude, p) = number(line, behind(line, from + 1)) else {
+    let Word::Of(magnitude, p) = lines::number(line, lines::behind(line, from + 1)) else {
         return false;
     };
     if sign == b'+' {
@@ -324,7 +238,7 @@ fn column_is(line: &[u8], at: usize, v: i64) -> bool {
 
 // BITS MILLIS, or BITS refused
 fn date_millis_right(line: &[u8], from: usize) -> bool {
-    let Word::Of(bits, p) = number(line, from) else {
+    let Word::Of(bits, p) = lines::number(line, from) else {
         return false;
     };
     match wire::date_millis(bits) {
@@ -335,7 +249,7 @@ fn date_millis_right(line: &[u8], from: usize) -> bool {
 
 // MILLIS BITS, or MILLIS outside
 fn date_bits_right(line: &[u8], from: usize) -> bool {
-    let Word::Of(ms, p) = number(line, from) else {
+    let Word::Of(ms, p) = lines::number(line, from) else {
         return false;
     };
     match wire::date_bits(ms) {
@@ -383,7 +297,7 @@ fn text_answers(line: &[u8], at: usize, s: &[u8], state: usize) -> bool {
 // BYTES, and the answer
 fn text_right(line: &[u8], from: usize) -> bool {
     let mut text = [0u8; 64];
-    let Word::Of(len, p) = bytes(line, from, &mut text) else {
+    let Word::Of(len, p) = lines::bytes(line, from, &mut text) else {
         return false;
     };
     if 64 < len {
@@ -421,56 +335,20 @@ fn right(kind: Kind, line: &[u8], at: usize) -> bool {
     }
 }
 
-// How many lines were read, how many of a kind were right and how many wrong, and the number of the first wrong one.
-struct Tally {
-    lines: u64,
-    right: u64,
-    wrong: u64,
-    first: u64,
-}
-
 // A tally after one line more. Lines of the kind begin with `name`.
-fn counted(mut t: Tally, kind: Kind, name: &[u8], line: &[u8]) -> Tally {
-    t.lines = std::num::wrapping_add_u64(t.lines, 1);
-    if line.len() < name.len() || !same(&line[0..name.len()], name) {
-        return t;
+fn counted(t: Tally, kind: Kind, name: &[u8], line: &[u8]) -> Tally {
+    if !lines::begins(line, name) {
+        return lines::passed(t);
     }
-    if right(kind, line, name.len()) {
-        t.right = std::num::wrapping_add_u64(t.right, 1);
-        return t;
-    }
-    if t.wrong == 0 {
-        t.first = t.lines;
-    }
-    t.wrong = std::num::wrapping_add_u64(t.wrong, 1);
-    t
-}
-
-// The place behind the line that goes on at `at`.
-fn line_end(text: &[u8], at: usize) -> usize
-    ensures { λ r. ⌜ r ≤ length (now (text .entry)) ⌝ }
-{
-    let mut i = at;
-    while i < text.len() {
-        if text[i] == b'\n' {
-            return i + 1;
-        }
-        i += 1;
-    }
-    text.len()
+    lines::tallied(t, right(kind, line, name.len()))
 }
 
 // The tally of one kind of line over the whole text.
 fn count(text: &[u8], kind: Kind, name: &[u8]) -> Tally {
-    let mut t = Tally {
-        lines: 0,
-        right: 0,
-        wrong: 0,
-        first: 0,
-    };
+    let mut t = lines::no_tally();
     let mut at = 0;
     while at < text.len() {
-        let end = line_end(text, at);
+        let end = lines::line_end(text, at);
         if end <= at {
             break;
         }
@@ -481,17 +359,7 @@ fn count(text: &[u8], kind: Kind, name: &[u8]) -> Tally {
 }
 
 fn report(text: &[u8], kind: Kind, name: &[u8]) {
-    let t = count(text, kind, name);
-    io::write_all(STDOUT_FILENO, name);
-    io::print_decimal(STDOUT_FILENO, t.right);
-    io::write_all(STDOUT_FILENO, b" right, ");
-    io::print_decimal(STDOUT_FILENO, t.wrong);
-    io::write_all(STDOUT_FILENO, b" wrong");
-    if t.wrong != 0 {
-        io::write_all(STDOUT_FILENO, b", the first in line ");
-        io::print_decimal(STDOUT_FILENO, t.first);
-    }
-    io::write_all(STDOUT_FILENO, b"\n");
+    lines::report(name, count(text, kind, name));
 }
 
 fn report_all(text: &[u8]) {

@@ -1,5 +1,5 @@
 -- Made by proofs.py from answers/count.txt: change that file, not this one.
--- answers 4c9317879998 proof 442d0bd49dc9
+-- answers 4c9317879998 proof e8a971c04a04
 use borrow.Author.Needs.{needs}
 use Prim.Native.Nat.{_-_}
 use lib.ListN.{length}
@@ -8,13 +8,17 @@ use Rattle.leaves.proofs.count.Tie as tie
 use Rattle.leaves.proofs.count.Reads as reads
 use Rattle.leaves.proofs.count.Lts as lts
 use Rattle.leaves.proofs.counted.Reads as counted-reads
-use Rattle.leaves.proofs.line_end.Reads as line-end-reads
+use Rattle.lines.proofs.line_end.Reads as line-end-reads
+use Rattle.lines.proofs.no_tally.Reads as no-tally-reads
 
 abbrev Inv-loop : tie.InvT-loop
 Inv-loop text kind name t₀ at₀ t at = Unit {0}
 
 abbrev μ-loop : tie.MeasureT-loop
 μ-loop text kind name t₀ at₀ t at = length text - at
+
+no-tally-requires : tie.Need-no-tally-requires Inv-loop μ-loop
+no-tally-requires c κs = search needs
 
 loop-holds : tie.Need-loop-holds Inv-loop μ-loop
 loop-holds c = search needs
@@ -49,5 +53,5 @@ returns-2 c = search needs
 pub count-spec : {M : Type 1} → statement M
 count-spec =
     tie.close
-    (tie.spec Inv-loop μ-loop loop-holds line-end-requires sub-counted part-counted-start part-counted-end counted-requires loop-less loop-again
-    returns returns-2)
+    (tie.spec Inv-loop μ-loop no-tally-requires loop-holds line-end-requires sub-counted part-counted-start part-counted-end counted-requires
+    loop-less loop-again returns returns-2)

@@ -1,15 +1,15 @@
 -- Made by proofs.py from answers/bytes.txt: change that file, not this one.
--- answers d04500b365cc proof 229f7916a01d
+-- answers d04500b365cc proof 97d311186c97
 use borrow.Author.Needs.{needs}
 use mathlib.Core.Path.{_≡_}
 use Prim.Native.Nat.{_-_}
 use lib.ListN.{length}
-use Rattle.leaves.proofs.bytes.Statement.{statement}
-use Rattle.leaves.proofs.bytes.Tie as tie
-use Rattle.leaves.proofs.bytes.Reads as reads
-use Rattle.leaves.proofs.bytes.Lts as lts
-use Rattle.leaves.proofs.behind.Reads as behind-reads
-use Rattle.leaves.proofs.digit.Reads as digit-reads
+use Rattle.lines.proofs.bytes.Statement.{statement}
+use Rattle.lines.proofs.bytes.Tie as tie
+use Rattle.lines.proofs.bytes.Reads as reads
+use Rattle.lines.proofs.bytes.Lts as lts
+use Rattle.lines.proofs.behind.Reads as behind-reads
+use Rattle.lines.proofs.digit.Reads as digit-reads
 
 abbrev Inv-loop : tie.InvT-loop
 Inv-loop line at out₀ n₀ p₀ out n p = length out ≡ length out₀

@@ -1,12 +1,12 @@
 -- Made by proofs.py from answers/same.txt: change that file, not this one.
--- answers 42d1072555cd proof 1f621c5714da
+-- answers 42d1072555cd proof 01885c5a645f
 use borrow.Author.Needs.{needs}
 use Prim.Native.Nat.{_-_}
 use lib.ListN.{length}
-use Rattle.leaves.proofs.same.Statement.{statement}
-use Rattle.leaves.proofs.same.Tie as tie
-use Rattle.leaves.proofs.same.Reads as reads
-use Rattle.leaves.proofs.same.Lts as lts
+use Rattle.lines.proofs.same.Statement.{statement}
+use Rattle.lines.proofs.same.Tie as tie
+use Rattle.lines.proofs.same.Reads as reads
+use Rattle.lines.proofs.same.Lts as lts
 
 abbrev Inv-loop : tie.InvT-loop
 Inv-loop a b i₀ i = Unit {0}

@@ -1,27 +1,27 @@
--- Made by proofs.py from answers/line_end.txt: change that file, not this one.
--- answers 4bc5ceddc795 proof 688325662de8
+-- Made by proofs.py from answers/zero_from.txt: change that file, not this one.
+-- answers 5be35daf87d5 proof e488ddd27ce0
 use borrow.Author.Needs.{needs}
 use Prim.Native.Nat.{_-_}
 use lib.ListN.{length}
-use Rattle.leaves.proofs.line_end.Statement.{statement}
-use Rattle.leaves.proofs.line_end.Tie as tie
-use Rattle.leaves.proofs.line_end.Reads as reads
-use Rattle.leaves.proofs.line_end.Lts as lts
+use Rattle.vectors.proofs.zero_from.Statement.{statement}
+use Rattle.vectors.proofs.zero_from.Tie as tie
+use Rattle.vectors.proofs.zero_from.Reads as reads
+use Rattle.vectors.proofs.zero_from.Lts as lts
 
 abbrev Inv-loop : tie.InvT-loop
-Inv-loop text at i₀ i = Unit {0}
+Inv-loop xs n i₀ i = Unit {0}
 
 abbrev μ-loop : tie.MeasureT-loop
-μ-loop text at i₀ i = length text - i
+μ-loop xs n i₀ i = length xs - i
 
 loop-holds : tie.Need-loop-holds Inv-loop μ-loop
 loop-holds c = search needs
 
+mul-if1 : tie.Need-mul-if1 Inv-loop μ-loop
+mul-if1 c = search needs
+
 shared-slice-read-if1 : tie.Need-shared-slice-read-if1 Inv-loop μ-loop
 shared-slice-read-if1 c = search needs
-
-add-result : tie.Need-add-result Inv-loop μ-loop
-add-result c = search needs
 
 returns : tie.Need-returns Inv-loop μ-loop
 returns c = search needs
@@ -38,7 +38,7 @@ loop-again c = search needs
 returns-2 : tie.Need-returns-2 Inv-loop μ-loop
 returns-2 c = search needs
 
-pub line-end-spec : {M : Type 1} → statement M
-line-end-spec =
+pub zero-from-spec : {M : Type 1} → statement M
+zero-from-spec =
     tie.close
-    (tie.spec Inv-loop μ-loop loop-holds shared-slice-read-if1 add-result returns add-i loop-less loop-again returns-2)
+    (tie.spec Inv-loop μ-loop loop-holds mul-if1 shared-slice-read-if1 returns add-i loop-less loop-again returns-2)

@@ -1,15 +1,15 @@
 -- Made by proofs.py from answers/number.txt: change that file, not this one.
--- answers cbcdc0344c90 proof 09dd042ff68f
+-- answers cbcdc0344c90 proof 65fed7073e40
 use borrow.Author.Needs.{needs}
 use Prim.Native.Nat.{_-_}
 use lib.ListN.{length}
-use Rattle.leaves.proofs.number.Statement.{statement}
-use Rattle.leaves.proofs.number.Tie as tie
-use Rattle.leaves.proofs.number.Reads as reads
-use Rattle.leaves.proofs.number.Lts as lts
-use Rattle.leaves.proofs.behind.Reads as behind-reads
-use Rattle.leaves.proofs.digit.Reads as digit-reads
-use Rattle.leaves.proofs.wide.Reads as wide-reads
+use Rattle.lines.proofs.number.Statement.{statement}
+use Rattle.lines.proofs.number.Tie as tie
+use Rattle.lines.proofs.number.Reads as reads
+use Rattle.lines.proofs.number.Lts as lts
+use Rattle.lines.proofs.behind.Reads as behind-reads
+use Rattle.lines.proofs.digit.Reads as digit-reads
+use Rattle.lines.proofs.wide.Reads as wide-reads
 
 abbrev Inv-loop : tie.InvT-loop
 Inv-loop line at n₀ p₀ n p = Unit {0}
