@@ -1,0 +1,6 @@
+-- The laws that the proofs of the functions cite.
+pub mod Works
+pub mod Depths
+pub mod Lengths
+pub mod Going
+pub mod Steps
