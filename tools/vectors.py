@@ -5,8 +5,10 @@
 
 FOLDER has readings.jsonl and writings.jsonl, a vector a line:
 - a reading: `hex` the message, `loans` the entries lent, `no` 0 for finished or the refusal with `told` and `place`, `taken`, the used part of each loan afterwards,
-  and `written`, what the writer makes of the finished rows;
+  `waiting`, the used parts after each byte while a feed of the message waits, and `written`, what the writer makes of the finished rows;
 - a writing: `rows`, `store`, `room`, `no` 0 for accepted with the bytes in `hex` or the refusal with `told` and `place`.
+
+The examples of document 01 stand below, in the same form.
 """
 import json
 import pathlib
@@ -18,10 +20,76 @@ ROOMY = 512  # room for any finished reading, written again
 HEADER = """\
 # Made by tools/vectors.py. Each line has a kind, what is asked, and the answer, in hexadecimal. A LIST is how many numbers, then they.
 # reading MESSAGE, the lengths of the six loans, NO TOLD PLACE TAKEN, and what is used of each loan afterwards: LIST BYTES LIST LIST LIST LIST
+# example: the same, for the examples of document 01
+# waiting: the same, where a feed of the message waits after its last byte
 # written ROWS STORE ROOM NO TOLD PLACE BYTES, for the rows and the store of each finished reading; ROWS is a LIST
 # writing ROWS STORE ROOM NO TOLD PLACE BYTES
 # NO is 0 where nothing is refused, and TOLD and PLACE are 0 where nothing is told. BYTES may be none. A refused reading has taken and used nothing.
 """
+
+TALLIES = ["reading", "reading fed", "example", "example fed", "waiting", "written", "writing"]  # by the kind of line that each begins with
+
+# ---- the examples of document 01
+
+LENT = [64, 256, 16, 64, 8, 16]
+NONE = {"rows": [], "store": "", "strings": [], "objects": [], "traits": [], "names": []}
+DYNAMIC = [0, 0, 1, 0, 0]  # a trait with no class and no names
+
+
+def row(kind, end, number=0, counts=(0, 0), text=(0, 0), key=None):
+    return [kind, 0 if key is None else 1, *(key or (0, 0)), *text, 0, 0, number % 2**64, *counts, end]
+
+
+def gives(message, taken, loans, used):
+    return {"hex": message, "loans": loans, "no": 0, "told": 0, "place": 0, "taken": taken, **used}
+
+
+def finished(message, taken, rows, **used):
+    return gives(message, taken, LENT, {**NONE, "rows": rows, **used})
+
+
+def refused(message, no, place, told=0):
+    return {"hex": message, "loans": LENT, "no": no, "told": told, "place": place, **NONE}
+
+
+def integer(n):
+    return row(4, 1, number=n)
+
+
+TWO_TEXTS = [row(9, 3, counts=(0, 2)), row(6, 2, text=(0, 1)), row(6, 3, text=(0, 1))]
+
+EXAMPLES = [
+    refused("", 2, 0),
+    finished("04ffffffff", 5, [integer(-1)]),
+    finished("04c0808000", 5, [integer(-268435456)]),
+    finished("04bfffffff", 5, [integer(268435455)]),
+    finished("048000", 3, [integer(0)]),
+    finished("0905010603610600", 8, TWO_TEXTS, store="61", strings=[[0, 1]], objects=[0]),
+    refused("09050106010600", 4, 7, told=0),
+    refused("0903010900", 5, 5, told=0),
+    refused("0a0701", 6, 3),
+    finished("110102", 3, [row(17, 1)], objects=[0]),
+    refused("0605c080", 8, 4),
+    finished(
+        "0a0b010361040101", 8, [row(10, 2, counts=(0, 1)), row(4, 2, number=1, key=(0, 1))],
+        store="61", strings=[[0, 1]], objects=[0], traits=[DYNAMIC],
+    ),
+    refused("12", 3, 1, told=0x12),
+    refused("080180" + 7 * "00", 7, 10, told=2**63),
+    finished(63 * "090301" + "090101", 192, [*(63 * [row(9, 64, counts=(0, 1))]), row(9, 64)], objects=list(range(64))),
+    refused(64 * "090301" + "01", 9, 193),
+]
+
+WAITING_EXAMPLE = gives("0905010603", 5, LENT, {**NONE, "rows": [row(9, 0), row(6, 0, text=(0, 1))], "store": "00", "objects": [0]})
+
+WRITTEN_EXAMPLES = [
+    ([integer(0x80)], "", "048100"),
+    ([integer(0x4000)], "", "04818000"),
+    ([integer(0x200000)], "", "0480c08000"),
+    (TWO_TEXTS, "61", "090501060361060361"),
+]
+
+# ---- the lines
 
 
 def words(*numbers):
@@ -33,28 +101,36 @@ def listed(entries):
     return words(len(numbers), *numbers)
 
 
-def reading(v):
-    taken = 0 if v["no"] else v["taken"]
+def reading(kind, v):
     lengths = [n * width for n, width in zip(v["loans"], WIDTHS)]
+    taken = 0 if v["no"] else v["taken"]
     used = [listed(v["rows"]), v["store"], *(listed(v[k]) for k in ("strings", "objects", "traits", "names"))]
-    return " ".join(["reading", v["hex"], words(*lengths), words(v["no"], v["told"], v["place"], taken), *used])
+    return " ".join([kind, v["hex"], words(*lengths), words(v["no"], v["told"], v["place"], taken), *used])
 
 
 def writing(kind, rows, store, room, answer):
     return " ".join([kind, listed(rows), store, words(room), words(answer["no"], answer["told"], answer["place"]), answer["hex"]]).rstrip()
 
 
+def accepted(message):
+    return {"no": 0, "told": 0, "place": 0, "hex": message}
+
+
 def main():
     folder = pathlib.Path(sys.argv[1])
     readings, writings = ([json.loads(line) for line in open(folder / name)] for name in ("readings.jsonl", "writings.jsonl"))
+    waiting = [gives(v["hex"][: 2 * n], n, v["loans"], w) for v in readings for n, w in enumerate(v["waiting"], 1)]
     kinds = {
-        "reading": [reading(v) for v in readings],
+        "reading": [reading("reading", v) for v in readings],
+        "example": [reading("example", v) for v in EXAMPLES],
+        "waiting": list(dict.fromkeys(reading("waiting", v) for v in [*waiting, WAITING_EXAMPLE])),
         "written": [writing("written", v["rows"], v["store"], ROOMY, v["written"]) for v in readings if v["no"] == 0],
-        "writing": [writing("writing", v["rows"], v["store"], v["room"], v) for v in writings],
+        "writing": [writing("writing", v["rows"], v["store"], v["room"], v) for v in writings]
+        + [writing("writing", rows, store, ROOMY, accepted(message)) for rows, store, message in WRITTEN_EXAMPLES],
     }
     crate = pathlib.Path(__file__).resolve().parent.parent / "crates" / "vectors"
     (crate / "data" / "vectors.txt").write_text(HEADER + "".join(line + "\n" for lines in kinds.values() for line in lines))
-    (crate / "stdout").write_text("".join(f"{kind} {len(lines)} right, 0 wrong\n" for kind, lines in kinds.items()))
+    (crate / "stdout").write_text("".join(f"{name} {len(kinds[name.split()[0]])} right, 0 wrong\n" for name in TALLIES))
 
 
 main()

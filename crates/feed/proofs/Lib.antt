@@ -4,3 +4,8 @@ pub mod Depths
 pub mod Lengths
 pub mod Going
 pub mod Steps
+pub mod Costs
+pub mod Bytes
+pub mod Fills
+pub mod Drives
+pub mod Calls

@@ -1,6 +1,6 @@
 -- One byte on every state: what has ended stays, and what has not goes on as its answer says.
 use mathlib.Core.Path.{_≡_, refl, sym, ap, _∙_}
-use mathlib.Core.Bool.{Bool, true, false, cond, not, _&&_, _||_}
+use mathlib.Core.Bool.{Bool, true, false, cond, _&&_, _||_}
 use mathlib.Core.List.{List}
 use Prim.Native.Nat.{ℕ, suc, _+_, _≤_, _<_}
 use native.Mathlib.Omega.{arith}
@@ -10,18 +10,17 @@ use borrow.Author.Tests.{eq-eqb, ne-eqb, le-leb, lt-leb}
 use Rattle.rows.specs.declared.Cursor.{Cursor}
 use Rattle.rows.specs.Memory.{Memory, cursor, faultOf, messageLimit}
 use Rattle.format.specs.declared.Head.{Head}
-use Rattle.format.specs.declared.Lent.{Lent}
 use Rattle.format.specs.declared.Frame.{Frame}
 use Rattle.format.specs.Reading.{finished, refused, refusal, taken}
 use Rattle.format.specs.Step.{Mode, State, wait, over, none, broken, act, step}
-use Rattle.format.specs.Numbers.{Held, held, byteStep, stepped, stateOf, afterStep, numbered, memoryOf, modeOf, framesOf, sound, soundStep, depthFits}
+use Rattle.format.specs.Numbers.{held, byteStep, stepped, stateOf, afterStep, numbered, modeOf, framesOf, sound, soundStep, depthFits}
 use Rattle.format.specs.Numbers.{sameLent, lentOf, countsFit, modeFits}
 use Rattle.format.proofs.Tests.{clash, both}
 use Rattle.decide.specs.declared.Refusal.{Refusal}
-use Rattle.step.specs.declared.Next.{Next}
-use Rattle.step.specs.declared.Next.the-variants.{Wait, Finished, Refused}
-use Rattle.step.specs.Held.{After, after, afterOf, settled, refusalOf}
-use Rattle.step.proofs.Frames.{length-frames}
+use Rattle.resume.specs.declared.Next.{Next}
+use Rattle.resume.specs.declared.Next.the-variants.{Refused}
+use Rattle.resume.specs.Held.{After, after, afterOf, settled, refusalOf}
+use Rattle.resume.proofs.Frames.{length-frames}
 use Rattle.feed.specs.Held.{numbers, hasEnded, stateAfter, headOf, heldOf}
 use Rattle.feed.proofs.Going.{Going, act-going}
 
@@ -42,7 +41,7 @@ module _ (b : ℕ) (h : Head) (F : List ℕ) (m : Memory) where
       by false false true e = refl
       by false false false e = clash cc
 
-  goes : hasEnded h ≡ false → byteStep b (held (numbers h F) m) ≡ afterStep (numbers h F) (stateAfter b h F m)
+  pub goes : hasEnded h ≡ false → byteStep b (held (numbers h F) m) ≡ afterStep (numbers h F) (stateAfter b h F m)
   unfolding hasEnded byteStep stateOf stateAfter
   goes e = by (eqb (h .status) 1) (eqb (h .status) 2) (eqb (h .status) 3 && leb 1 (h .number) && leb (h .number) 12) e
     where
@@ -73,10 +72,12 @@ module _ (b : ℕ) (h : Head) (F : List ℕ) (m : Memory) where
   told-alike (over (refused number told place m)) g = refl
   told-alike (none m) g = absurd g
 
+  pub byte-held : (x : After) → hasEnded h ≡ false → x ≡ afterOf F (stateAfter b h F m) → heldOf (h .lent) x ≡ byteStep b (held (numbers h F) m)
+  byte-held x n p = ap (heldOf (h .lent)) p ∙ told-alike (stateAfter b h F m) after-going ∙ sym (goes n)
+
   pub goes-on : (F′ : List ℕ) (m′ m″ : Memory) (a : Next) (h′ : Head) → hasEnded h ≡ false → settled (after a F′ m′) ≡ afterOf F (stateAfter b h F m)
       → after a F′ m″ ≡ settled (after a F′ m′) → h′ ≡ headOf (h .lent) a → held (numbers h′ F′) m″ ≡ byteStep b (held (numbers h F) m)
-  goes-on F′ m′ m″ a h′ n p q r =
-      ap (λ (k : Head). held (numbers k F′) m″) r ∙ ap (heldOf (h .lent)) (q ∙ p) ∙ told-alike (stateAfter b h F m) after-going ∙ sym (goes n)
+  goes-on F′ m′ m″ a h′ n p q r = ap (λ (k : Head). held (numbers k F′) m″) r ∙ byte-held (after a F′ m″) n (q ∙ p)
 
   -- ---- the answers of a state that has not ended
 
@@ -93,23 +94,10 @@ module _ (b : ℕ) (h : Head) (F : List ℕ) (m : Memory) where
     unfolding stateAfter soundStep
     not-sound r e f = refuses-12 (stateAfter b h F m) r e (rw (eq-eqb (h .status) 1 one, sym st ∙ f))
 
-    pub too-long : (r : Refusal) → r ≡ refusalOf 11 0 (h .cursor .at) → t ≡ true → 262144 ≤ h .cursor .at
-        → settled (after (Refused r) F m) ≡ afterOf F (stateAfter b h F m)
-    unfolding stateAfter soundStep step messageLimit settled afterOf
-    too-long r e f l = rw (e, eq-eqb (h .status) 1 one, sym st ∙ f, le-leb 262144 (h .cursor .at) l)
-
-    -- the cursor one further
-    abbrev further : ℕ → Cursor
-    further n =
-        cursor n (h .cursor .rows) (h .cursor .store) (h .cursor .strings) (h .cursor .objects) (h .cursor .traits) (h .cursor .names)
-
-    pub acted : (x : After) → t ≡ true → h .cursor .at < 262144
-        → x ≡ afterOf F (act (modeOf (h .work)) b (framesOf F (h .depth)) (further (h .cursor .at + 1)) m) → x ≡ afterOf F (stateAfter b h F m)
-    unfolding stateAfter soundStep step messageLimit
-    acted x f l q =
-        let e : h .cursor .at + 1 ≡ suc (h .cursor .at) = omega arith in
-        rw (eq-eqb (h .status) 1 one, sym st ∙ f, lt-leb 262144 (h .cursor .at) l)
-        (q ∙ ap (λ (k : ℕ). afterOf F (act (modeOf (h .work)) b (framesOf F (h .depth)) (further k) m)) e)
+    pub stepped-on : (x : After) → t ≡ true → x ≡ afterOf F (step b (wait (modeOf (h .work)) (framesOf F (h .depth)) (h .cursor) m))
+        → x ≡ afterOf F (stateAfter b h F m)
+    unfolding stateAfter soundStep
+    stepped-on x f q = rw (eq-eqb (h .status) 1 one, sym st ∙ f) q
 
     pub deep-enough : t ≡ true → depthFits (modeOf (h .work)) (h .depth) ≡ true
     unfolding sound
@@ -119,3 +107,20 @@ module _ (b : ℕ) (h : Head) (F : List ℕ) (m : Memory) where
         fourth (sameLent (lentOf m) (h .lent)) (eqb (faultOf m) 0) (leb (h .cursor .at) messageLimit) (depthFits (modeOf (h .work)) (length (framesOf F (h .depth))))
         (countsFit (h .cursor) m) (modeFits (h .cursor) (modeOf (h .work))) e in
         rw (length-frames F (h .depth)) at d
+
+-- ---- a byte of a state that waits
+
+-- the cursor at another place
+abbrev pub further : Cursor → ℕ → Cursor
+further c n = cursor n (c .rows) (c .store) (c .strings) (c .objects) (c .traits) (c .names)
+
+module _ (b : ℕ) (x : Mode) (ts : List Frame) (c : Cursor) (F : List ℕ) (m : Memory) where
+  pub too-long : (r : Refusal) → r ≡ refusalOf 11 0 (c .at) → 262144 ≤ c .at → settled (after (Refused r) F m) ≡ afterOf F (step b (wait x ts c m))
+  unfolding step messageLimit settled afterOf
+  too-long r e l = rw (e, le-leb 262144 (c .at) l)
+
+  pub acted : (y : After) → c .at < 262144 → y ≡ afterOf F (act x b ts (further c (c .at + 1)) m) → y ≡ afterOf F (step b (wait x ts c m))
+  unfolding step messageLimit
+  acted y l q =
+      let e : c .at + 1 ≡ suc (c .at) = omega arith in
+      rw (lt-leb 262144 (c .at) l) (q ∙ ap (λ (k : ℕ). afterOf F (act x b ts (further c k) m)) e)

@@ -1,20 +1,47 @@
-// One byte's step on every state that is lent to the feed: any numbers are a state, and a byte is taken only where they hold together.
+// The feed, by value: any numbers are a state, a byte is taken only where they hold together, and a piece is its bytes one after another.
 
+use decide::Refusal;
+use format::Answer;
 use format::Head;
 use format::Lent;
 use format::Work;
+use resume::Next;
 use rows::Cursor;
-use step::Next;
 ghost use mathlib.Core.Path.{_≡_};
-ghost use mathlib.Core.Bool.{false, _&&_};
+ghost use mathlib.Core.Bool.{true, false, _&&_};
 ghost use mathlib.Core.List.{List};
-ghost use Prim.Native.Nat.{ℕ, _+_};
+ghost use Prim.Native.Nat.{ℕ, suc, _+_, _-_, _≤_, _<_};
 ghost use lib.Dec.{leb, ltb};
-ghost use Rattle.rows.specs.Memory.{Memory, memory, zeroed, openLimit, spanUsed};
-ghost use Rattle.format.specs.Numbers.{lentOf, framesOf, modeOf, held, byteStep};
+ghost use lib.ListN.{length, drop};
+ghost use lib.Seq.{sets, slice};
+ghost use Rattle.rows.specs.Memory as m;
+ghost use Rattle.rows.specs.Memory.{Memory, memory, openLimit, messageLimit, spanUsed};
+ghost use Rattle.format.specs.Numbers.{lentOf, framesOf, modeOf, stateOf, held, byteStep};
 ghost use Rattle.format.specs.Numbers as n;
-ghost use Rattle.step.specs.Held.{withUse, after, afterOf, settled};
-ghost use Rattle.feed.specs.Held.{numbers, hasEnded, stateAfter, headOf};
+ghost use Rattle.format.specs.Answers as answers;
+ghost use Rattle.format.specs.Answers.{fed, answerOf, runHeld, takenBy, beginCall, feedCall, endCall};
+ghost use Rattle.format.specs.Step as steps;
+ghost use Rattle.resume.specs.Held.{withUse, after, afterOf, settled, IsRaw};
+ghost use Rattle.feed.specs.Held.{numbers, hasEnded, stateAfter, headOf, heldOf, costOf, waiting, Ready, Bulk, workPast, rowsPast, endRefusal, stateNumbers};
+
+const WAITING: usize = 1;
+
+const FINISHED: usize = 2;
+
+const REFUSED: usize = 3;
+
+// The numbers of refusals that a feed can give.
+const FIRST_REFUSAL: usize = 1;
+
+const LAST_REFUSAL: usize = 12;
+
+const WRONG_LOAN: usize = 1;
+
+const TOO_SHORT: usize = 2;
+
+const LOST: usize = 12;
+
+const TOO_LONG: usize = 11;
 
 const MESSAGE_LIMIT: usize = 262144;
 
@@ -25,6 +52,48 @@ const ROW_WIDTH: usize = 12;
 const SPAN_WIDTH: usize = 2;
 
 const TRAIT_WIDTH: usize = 5;
+
+// ---- modes and purposes, by their numbers
+
+const AT_MARKER: usize = 1;
+
+const AT_WORD: usize = 2;
+
+const AT_NUMBER: usize = 3;
+
+const AT_FLAG: usize = 4;
+
+const AT_TEXT: usize = 5;
+
+const AT_RAW: usize = 6;
+
+const FOR_DOUBLE: usize = 1;
+
+const FOR_DATE: usize = 2;
+
+const FOR_XML: usize = 3;
+
+const FOR_BYTES: usize = 6;
+
+const FOR_FOURS: usize = 7;
+
+const FOR_EIGHTS: usize = 8;
+
+const FOR_DICTIONARY: usize = 10;
+
+const FOR_STRING: usize = 11;
+
+const FOR_KEY: usize = 12;
+
+const FOR_DYNAMIC_KEY: usize = 13;
+
+const FOR_CLASS: usize = 14;
+
+const FOR_EXTERNAL: usize = 15;
+
+const FOR_NAME: usize = 16;
+
+const FOR_VECTOR: usize = 17;
 
 // ---- the loans
 
@@ -110,13 +179,13 @@ fn use_fits(c: Cursor, w: Work) -> bool
 {
     let purpose = w.purpose;
     match purpose {
-        11 => w.row < c.rows,
-        12 => w.row < c.rows,
-        13 => w.row < c.rows,
-        14 => w.row < c.rows,
-        15 => true,
-        16 => place_fits(c, w.row, w.kind.begin, w.kind.size),
-        17 => w.row < c.rows,
+        FOR_STRING => w.row < c.rows,
+        FOR_KEY => w.row < c.rows,
+        FOR_DYNAMIC_KEY => w.row < c.rows,
+        FOR_CLASS => w.row < c.rows,
+        FOR_EXTERNAL => true,
+        FOR_NAME => place_fits(c, w.row, w.kind.begin, w.kind.size),
+        FOR_VECTOR => w.row < c.rows,
         _ => false,
     }
 }
@@ -137,7 +206,7 @@ fn word_fits(c: Cursor, w: Work) -> bool
     if w.purpose == 0 {
         return false;
     }
-    if w.purpose <= 10 {
+    if w.purpose <= FOR_DICTIONARY {
         return w.row < c.rows;
     }
     use_fits(c, w)
@@ -148,8 +217,8 @@ fn number_fits(c: Cursor, w: Work) -> bool
 {
     let purpose = w.purpose;
     match purpose {
-        1 => w.row < c.rows,
-        2 => w.row < c.rows,
+        FOR_DOUBLE => w.row < c.rows,
+        FOR_DATE => w.row < c.rows,
         _ => false,
     }
 }
@@ -158,13 +227,13 @@ fn number_fits(c: Cursor, w: Work) -> bool
 fn flag_fits(c: Cursor, w: Work) -> bool
     ensures { λ r. ⌜ (w .mode ≡ 4 → r ≡ n.modeFits c (modeOf w)) ⌝ }
 {
-    if w.purpose < 7 {
+    if w.purpose < FOR_FOURS {
         return false;
     }
-    if w.purpose <= 8 {
+    if w.purpose <= FOR_EIGHTS {
         return place_fits(c, w.row, w.span.begin, w.span.size);
     }
-    if 10 < w.purpose {
+    if FOR_DICTIONARY < w.purpose {
         return false;
     }
     w.row < c.rows
@@ -173,7 +242,7 @@ fn flag_fits(c: Cursor, w: Work) -> bool
 fn text_fits(c: Cursor, w: Work) -> bool
     ensures { λ r. ⌜ (w .mode ≡ 5 → r ≡ n.modeFits c (modeOf w)) ⌝ }
 {
-    if w.purpose == 3 {
+    if w.purpose == FOR_XML {
         return body_fits(c, w);
     }
     if !use_fits(c, w) {
@@ -185,10 +254,10 @@ fn text_fits(c: Cursor, w: Work) -> bool
 fn raw_fits(c: Cursor, w: Work) -> bool
     ensures { λ r. ⌜ (w .mode ≡ 6 → r ≡ n.modeFits c (modeOf w)) ⌝ }
 {
-    if w.purpose < 6 {
+    if w.purpose < FOR_BYTES {
         return false;
     }
-    if 8 < w.purpose {
+    if FOR_EIGHTS < w.purpose {
         return false;
     }
     body_fits(c, w)
@@ -200,12 +269,12 @@ fn mode_fits(c: Cursor, w: Work) -> bool
 {
     let mode = w.mode;
     match mode {
-        1 => marker_fits(c, w),
-        2 => word_fits(c, w),
-        3 => number_fits(c, w),
-        4 => flag_fits(c, w),
-        5 => text_fits(c, w),
-        6 => raw_fits(c, w),
+        AT_MARKER => marker_fits(c, w),
+        AT_WORD => word_fits(c, w),
+        AT_NUMBER => number_fits(c, w),
+        AT_FLAG => flag_fits(c, w),
+        AT_TEXT => text_fits(c, w),
+        AT_RAW => raw_fits(c, w),
         _ => false,
     }
 }
@@ -227,11 +296,11 @@ fn at_work(w: Work) -> bool
 {
     let mode = w.mode;
     match mode {
-        2 => between(1, w.purpose, 18),
-        3 => between(1, w.purpose, 3),
-        4 => between(7, w.purpose, 11),
-        5 => text_at_work(w),
-        6 => between(6, w.purpose, 9),
+        AT_WORD => between(1, w.purpose, 18),
+        AT_NUMBER => between(1, w.purpose, 3),
+        AT_FLAG => between(7, w.purpose, 11),
+        AT_TEXT => text_at_work(w),
+        AT_RAW => between(6, w.purpose, 9),
         _ => false,
     }
 }
@@ -239,7 +308,7 @@ fn at_work(w: Work) -> bool
 fn text_at_work(w: Work) -> bool
     ensures { λ r. ⌜ (w .mode ≡ 5 → (d : ℕ) → n.depthFits (modeOf w) d ≡ (r && ltb d openLimit)) ⌝ }
 {
-    if w.purpose == 3 {
+    if w.purpose == FOR_XML {
         return true;
     }
     between(11, w.purpose, 18)
@@ -249,7 +318,7 @@ fn text_at_work(w: Work) -> bool
 fn depth_fits(w: Work, depth: usize) -> bool
     ensures { λ r. ⌜ r ≡ n.depthFits (modeOf w) depth ⌝ }
 {
-    if w.mode == 1 {
+    if w.mode == AT_MARKER {
         return depth <= OPEN_LIMIT;
     }
     if !at_work(w) {
@@ -288,19 +357,56 @@ pub fn sound(h: Head, l: Lent) -> bool
 fn has_ended(h: Head) -> bool
     ensures { λ r. ⌜ r ≡ hasEnded h ⌝ }
 {
-    if h.status == 1 {
+    if h.status == WAITING {
         return false;
     }
-    if h.status == 2 {
+    if h.status == FINISHED {
         return true;
     }
-    if h.status != 3 {
+    if h.status != REFUSED {
         return false;
     }
-    if h.number < 1 {
+    if h.number < FIRST_REFUSAL {
         return false;
     }
-    h.number <= 12
+    h.number <= LAST_REFUSAL
+}
+
+// Byte `b` for a sound state that waits: refused with 11 where it has taken all.
+fn go_on(
+    rows: &mut [usize],
+    store: &mut [u8],
+    strings: &mut [usize],
+    objects: &mut [usize],
+    traits: &mut [usize],
+    names: &mut [usize],
+    frames: &mut [usize; 384],
+    c: Cursor,
+    depth: usize,
+    w: Work,
+    b: u8,
+) -> Next
+    requires { ⌜ n.depthFits (modeOf w) depth ≡ true ⌝ }
+    ensures { λ x. ⌜ settled (after x (now (frames .exit)) (memory (now (rows .exit)) (now (store .exit)) (now (strings .exit)) (now (objects .exit)) (now (traits .exit)) (now (names .exit)))) ≡ afterOf (now (frames .entry)) (steps.step b (steps.wait (modeOf w) (framesOf (now (frames .entry)) depth) c (memory (now (rows .entry)) (now (store .entry)) (now (strings .entry)) (now (objects .entry)) (now (traits .entry)) (now (names .entry))))) ⌝ }
+{
+    if MESSAGE_LIMIT <= c.at {
+        return Next::Refused(decide::refuse(c, TOO_LONG, 0));
+    }
+    let mut past = c;
+    past.at = c.at + 1;
+    step::act(
+        rows,
+        store,
+        strings,
+        objects,
+        traits,
+        names,
+        frames,
+        past,
+        depth,
+        w,
+        b,
+    )
 }
 
 // What a state that has not ended makes of a byte: one that was never begun, or is not sound, is refused with 12, and one that has taken all with 11.
@@ -317,7 +423,7 @@ fn next(
 ) -> Next
     ensures { λ x. ⌜ settled (after x (now (frames .exit)) (memory (now (rows .exit)) (now (store .exit)) (now (strings .exit)) (now (objects .exit)) (now (traits .exit)) (now (names .exit)))) ≡ afterOf (now (frames .entry)) (stateAfter b h (now (frames .entry)) (memory (now (rows .entry)) (now (store .entry)) (now (strings .entry)) (now (objects .entry)) (now (traits .entry)) (now (names .entry)))) ⌝ }
 {
-    if h.status != 1 {
+    if h.status != WAITING {
         return Next::Refused(decide::lost());
     }
     let l = Lent {
@@ -331,12 +437,7 @@ fn next(
     if !sound(h, l) {
         return Next::Refused(decide::lost());
     }
-    if MESSAGE_LIMIT <= h.cursor.at {
-        return Next::Refused(decide::refuse(h.cursor, 11, 0));
-    }
-    let mut c = h.cursor;
-    c.at = h.cursor.at + 1;
-    step::act(
+    go_on(
         rows,
         store,
         strings,
@@ -344,30 +445,11 @@ fn next(
         traits,
         names,
         frames,
-        c,
+        h.cursor,
         h.depth,
         h.work,
         b,
     )
-}
-
-// Every loan is set to zero.
-fn clear(
-    rows: &mut [usize],
-    store: &mut [u8],
-    strings: &mut [usize],
-    objects: &mut [usize],
-    traits: &mut [usize],
-    names: &mut [usize],
-)
-    ensures { λ x. ⌜ (memory (now (rows .exit)) (now (store .exit)) (now (strings .exit)) (now (objects .exit)) (now (traits .exit)) (now (names .exit))) ≡ zeroed (memory (now (rows .entry)) (now (store .entry)) (now (strings .entry)) (now (objects .entry)) (now (traits .entry)) (now (names .entry))) ⌝ }
-{
-    rows::zero(rows);
-    rows::zero_bytes(store);
-    rows::zero(strings);
-    rows::zero(objects);
-    rows::zero(traits);
-    rows::zero(names);
 }
 
 // A refusal leaves every loan zero.
@@ -385,7 +467,7 @@ fn settle(
     match a {
         Next::Wait(w, c, depth) => (),
         Next::Finished(c) => (),
-        Next::Refused(r) => clear(rows, store, strings, objects, traits, names),
+        Next::Refused(r) => rows::clear(rows, store, strings, objects, traits, names),
     }
 }
 
@@ -394,20 +476,33 @@ fn head_after(lent: Lent, a: Next) -> Head
     ensures { λ r. ⌜ r ≡ headOf lent a ⌝ }
 {
     match a {
-        Next::Wait(w, c, depth) => head(1, 0, 0, 0, lent, c, depth, w),
-        Next::Finished(c) => head(2, 0, 0, 0, lent, c, 0, format::idle()),
-        Next::Refused(r) => {
-            let fresh = Cursor {
-                at: 0,
-                rows: 0,
-                store: 0,
-                strings: 0,
-                objects: 0,
-                traits: 0,
-                names: 0,
-            };
-            head(3, r.number, r.told, r.place, lent, fresh, 0, format::idle())
-        }
+        Next::Wait(w, c, depth) => head(WAITING, 0, 0, 0, lent, c, depth, w),
+        Next::Finished(c) => head(FINISHED, 0, 0, 0, lent, c, 0, format::idle()),
+        Next::Refused(r) => head(
+            REFUSED,
+            r.number,
+            r.told,
+            r.place,
+            lent,
+            fresh(),
+            0,
+            format::idle(),
+        ),
+    }
+}
+
+// Nothing taken and nothing used.
+fn fresh() -> Cursor
+    ensures { λ r. ⌜ r ≡ m.fresh ⌝ }
+{
+    Cursor {
+        at: 0,
+        rows: 0,
+        store: 0,
+        strings: 0,
+        objects: 0,
+        traits: 0,
+        names: 0,
     }
 }
 
@@ -455,4 +550,398 @@ pub fn step(
     let a = next(rows, store, strings, objects, traits, names, frames, h, b);
     settle(rows, store, strings, objects, traits, names, a);
     head_after(h.lent, a)
+}
+
+// ---- a piece
+
+// The answer of the last step of a piece, and the bytes taken.
+struct Went {
+    next: Next,
+    taken: usize,
+}
+
+// The head after a piece, and the bytes taken.
+pub struct Ran {
+    pub head: Head,
+    pub taken: usize,
+}
+
+// The byte that made an answer was taken, but for 11 and 12.
+fn cost(a: Next) -> usize
+    ensures { λ r. ⌜ r ≡ costOf a ⌝ }
+{
+    match a {
+        Next::Wait(w, c, depth) => 1,
+        Next::Finished(c) => 1,
+        Next::Refused(r) => {
+            if r.number < TOO_LONG {
+                return 1;
+            }
+            if LAST_REFUSAL < r.number {
+                return 1;
+            }
+            0
+        }
+    }
+}
+
+fn least(a: usize, b: usize) -> usize
+    ensures { λ r. ⌜ (r ≤ a) × (r ≤ b) ⌝ }
+{
+    if a < b {
+        return a;
+    }
+    b
+}
+
+// How many of `n` bytes can be filled in at once: all but the last of a text or a raw body, 0 where a step is due.
+fn bulk(c: Cursor, w: Work, n: usize) -> usize
+    requires { ⌜ c .at ≤ messageLimit ⌝ }
+    ensures { λ r. ⌜ (0 < r → Bulk w c n r) ⌝ }
+{
+    if w.mode < AT_TEXT {
+        return 0;
+    }
+    least(least(w.left, n), MESSAGE_LIMIT - c.at)
+}
+
+// Fills `k` bytes of the piece from `i` on into the span of a text or a raw body, as that many steps would. The answer is the work after them.
+fn fill(
+    rows: &mut [usize],
+    store: &mut [u8],
+    c: Cursor,
+    w: Work,
+    piece: &[u8],
+    i: usize,
+    k: usize,
+) -> Work
+    requires { ⌜ (w .span .begin + w .span .size ≤ length (now store)) × (w .left < w .span .size) × (0 < k) × (k ≤ w .left) × (i + k ≤ length (now piece)) × ((w .mode ≡ 5 → ⊥) → IsRaw (w .purpose)) ⌝ }
+    ensures { λ r. ⌜ (now (store .exit) ≡ sets (now (store .entry)) (w .span .begin + (w .span .size - (w .left + 1))) (slice i (i + k) (now (piece .entry)))) × (r ≡ workPast w k (slice i (i + k) (now (piece .entry)))) × (now (rows .exit) ≡ rowsPast w c k (now (rows .entry))) ⌝ }
+{
+    let mut g = w;
+    g.left = w.left - k;
+    rows::copy(
+        store,
+        w.span.begin + (w.span.size - (w.left + 1)),
+        piece,
+        i,
+        k,
+    );
+    if w.mode == AT_TEXT {
+        g.part = utf8::run(w.part, &piece[i..i + k]);
+        return g;
+    }
+    let mut last = w;
+    last.left = w.left - k + 1;
+    step::raw_grown(rows, c, last);
+    g
+}
+
+// How many numbers the frames have: what their type says, which a proof has from this alone.
+fn frame_numbers(frames: &[usize; 384]) -> usize
+    ensures { λ r. ⌜ length (now (frames .entry)) ≡ 384 ⌝ }
+{
+    let numbers: &[usize] = frames;
+    numbers.len()
+}
+
+// The bytes of a piece after its first, on a sound state that waits.
+fn drive(
+    rows: &mut [usize],
+    store: &mut [u8],
+    strings: &mut [usize],
+    objects: &mut [usize],
+    traits: &mut [usize],
+    names: &mut [usize],
+    frames: &mut [usize; 384],
+    c0: Cursor,
+    depth0: usize,
+    w0: Work,
+    piece: &[u8],
+) -> Went
+    requires { ⌜ Ready w0 c0 depth0 (now frames) (memory (now rows) (now store) (now strings) (now objects) (now traits) (now names)) × (0 < length (now piece)) ⌝ }
+    ensures { λ r. ⌜ (heldOf (lentOf (memory (now (rows .entry)) (now (store .entry)) (now (strings .entry)) (now (objects .entry)) (now (traits .entry)) (now (names .entry)))) (settled (after (r .next) (now (frames .exit)) (memory (now (rows .exit)) (now (store .exit)) (now (strings .exit)) (now (objects .exit)) (now (traits .exit)) (now (names .exit))))) ≡ runHeld (held (waiting (lentOf (memory (now (rows .entry)) (now (store .entry)) (now (strings .entry)) (now (objects .entry)) (now (traits .entry)) (now (names .entry)))) w0 c0 depth0 (now (frames .entry))) (memory (now (rows .entry)) (now (store .entry)) (now (strings .entry)) (now (objects .entry)) (now (traits .entry)) (now (names .entry)))) (drop 1 (now (piece .entry)))) × (r .taken ≡ suc (takenBy (held (waiting (lentOf (memory (now (rows .entry)) (now (store .entry)) (now (strings .entry)) (now (objects .entry)) (now (traits .entry)) (now (names .entry)))) w0 c0 depth0 (now (frames .entry))) (memory (now (rows .entry)) (now (store .entry)) (now (strings .entry)) (now (objects .entry)) (now (traits .entry)) (now (names .entry)))) (drop 1 (now (piece .entry))))) ⌝ }
+{
+    frame_numbers(frames);
+    let mut c = c0;
+    let mut depth = depth0;
+    let mut w = w0;
+    let mut i = 1;
+    while i < piece.len() {
+        let k = bulk(c, w, piece.len() - i);
+        if 0 < k {
+            w = fill(rows, store, c, w, piece, i, k);
+            c.at = c.at + k;
+            i += k;
+        } else {
+            let a = go_on(
+                rows,
+                store,
+                strings,
+                objects,
+                traits,
+                names,
+                frames,
+                c,
+                depth,
+                w,
+                piece[i],
+            );
+            let Next::Wait(w1, c1, depth1) = a else {
+                let taken = i + cost(a);
+                return Went { next: a, taken };
+            };
+            w = w1;
+            c = c1;
+            depth = depth1;
+            i += 1;
+        }
+    }
+    let next = Next::Wait(w, c, depth);
+    Went { next, taken: i }
+}
+
+// A piece on any state: its bytes one after another. Whether the state holds together is tested once, with the first byte.
+pub fn run(
+    rows: &mut [usize],
+    store: &mut [u8],
+    strings: &mut [usize],
+    objects: &mut [usize],
+    traits: &mut [usize],
+    names: &mut [usize],
+    frames: &mut [usize; 384],
+    h: Head,
+    piece: &[u8],
+) -> Ran
+    ensures { λ r. ⌜ (held (numbers (r .head) (now (frames .exit))) (memory (now (rows .exit)) (now (store .exit)) (now (strings .exit)) (now (objects .exit)) (now (traits .exit)) (now (names .exit))) ≡ runHeld (held (numbers h (now (frames .entry))) (memory (now (rows .entry)) (now (store .entry)) (now (strings .entry)) (now (objects .entry)) (now (traits .entry)) (now (names .entry)))) (now (piece .entry))) × (r .taken ≡ takenBy (held (numbers h (now (frames .entry))) (memory (now (rows .entry)) (now (store .entry)) (now (strings .entry)) (now (objects .entry)) (now (traits .entry)) (now (names .entry)))) (now (piece .entry))) ⌝ }
+{
+    if piece.len() == 0 {
+        return Ran { head: h, taken: 0 };
+    }
+    if has_ended(h) {
+        return Ran { head: h, taken: 0 };
+    }
+    frame_numbers(frames);
+    let b = piece[0];
+    let a = next(rows, store, strings, objects, traits, names, frames, h, b);
+    let Next::Wait(w, c, depth) = a else {
+        settle(rows, store, strings, objects, traits, names, a);
+        return Ran {
+            head: head_after(h.lent, a),
+            taken: cost(a),
+        };
+    };
+    let went = drive(
+        rows,
+        store,
+        strings,
+        objects,
+        traits,
+        names,
+        frames,
+        c,
+        depth,
+        w,
+        piece,
+    );
+    let last = went.next;
+    settle(rows, store, strings, objects, traits, names, last);
+    Ran {
+        head: head_after(h.lent, last),
+        taken: went.taken,
+    }
+}
+
+// ---- the calls, on a state by value
+
+// A state that is lent to the feed: a head, and the frames of the open values. Any numbers are one.
+#[repr(C)]
+pub struct State {
+    pub head: Head,
+    pub frames: [usize; 384],
+}
+
+// The state after a call, and the answer.
+pub struct Fed {
+    pub state: State,
+    pub answer: Answer,
+}
+
+// What a head answers, so many bytes taken.
+fn answer_of(h: Head, taken: usize) -> Answer
+    ensures { λ r. ⌜ ((F : List ℕ) (m : Memory) → r ≡ answerOf (stateOf (numbers h F) m) taken) ⌝ }
+{
+    if h.status == WAITING {
+        return Answer::Waiting { taken };
+    }
+    if h.status == FINISHED {
+        return Answer::Finished {
+            rows: h.cursor.rows,
+            bytes: h.cursor.store,
+            taken,
+        };
+    }
+    if has_ended(h) {
+        return Answer::Refused {
+            no: h.number,
+            told: h.told,
+            place: h.place,
+            taken,
+        };
+    }
+    Answer::Refused {
+        no: LOST,
+        told: 0,
+        place: 0,
+        taken,
+    }
+}
+
+// A state of these numbers, and what it answers.
+fn answered(head: Head, frames: [usize; 384], taken: usize) -> Fed
+    ensures { λ r. ⌜ ((m : Memory) → fed (r .answer) (stateNumbers (r .state)) m ≡ answers.answered (held (numbers head frames) m) taken) ⌝ }
+{
+    Fed {
+        state: State { head, frames },
+        answer: answer_of(head, taken),
+    }
+}
+
+// The beginning of a reading: a marker is next, and nothing is used. A loan that 1 refuses leaves all of them as they are.
+pub fn begun(
+    rows: &mut [usize],
+    store: &mut [u8],
+    strings: &mut [usize],
+    objects: &mut [usize],
+    traits: &mut [usize],
+    names: &mut [usize],
+) -> Fed
+    ensures { λ r. ⌜ fed (r .answer) (stateNumbers (r .state)) (memory (now (rows .exit)) (now (store .exit)) (now (strings .exit)) (now (objects .exit)) (now (traits .exit)) (now (names .exit))) ≡ beginCall (memory (now (rows .entry)) (now (store .entry)) (now (strings .entry)) (now (objects .entry)) (now (traits .entry)) (now (names .entry))) ⌝ }
+{
+    let l = Lent {
+        rows: rows.len(),
+        store: store.len(),
+        strings: strings.len(),
+        objects: objects.len(),
+        traits: traits.len(),
+        names: names.len(),
+    };
+    let frames = [0; 384];
+    let loan = rows::loan_fault(l.rows, l.store, l.strings, l.objects, l.traits, l.names);
+    if loan != 0 {
+        let wrong = Refusal {
+            number: WRONG_LOAN,
+            told: loan,
+            place: 0,
+        };
+        return answered(head_after(l, Next::Refused(wrong)), frames, 0);
+    }
+    rows::clear(rows, store, strings, objects, traits, names);
+    let mut marker = format::idle();
+    marker.mode = AT_MARKER;
+    answered(head_after(l, Next::Wait(marker, fresh(), 0)), frames, 0)
+}
+
+// The head after a piece, and the answer.
+pub struct Headed {
+    pub head: Head,
+    pub answer: Answer,
+}
+
+// A piece on a head and its frames.
+pub fn fed_in(
+    h: Head,
+    frames: &mut [usize; 384],
+    rows: &mut [usize],
+    store: &mut [u8],
+    strings: &mut [usize],
+    objects: &mut [usize],
+    traits: &mut [usize],
+    names: &mut [usize],
+    piece: &[u8],
+) -> Headed
+    ensures { λ r. ⌜ fed (r .answer) (numbers (r .head) (now (frames .exit))) (memory (now (rows .exit)) (now (store .exit)) (now (strings .exit)) (now (objects .exit)) (now (traits .exit)) (now (names .exit))) ≡ feedCall (numbers h (now (frames .entry))) (memory (now (rows .entry)) (now (store .entry)) (now (strings .entry)) (now (objects .entry)) (now (traits .entry)) (now (names .entry))) (now (piece .entry)) ⌝ }
+{
+    let ran = run(
+        rows,
+        store,
+        strings,
+        objects,
+        traits,
+        names,
+        frames,
+        h,
+        piece,
+    );
+    let head = ran.head;
+    Headed {
+        head,
+        answer: answer_of(head, ran.taken),
+    }
+}
+
+// The same on a state by value.
+pub fn fed_on(
+    s: State,
+    rows: &mut [usize],
+    store: &mut [u8],
+    strings: &mut [usize],
+    objects: &mut [usize],
+    traits: &mut [usize],
+    names: &mut [usize],
+    piece: &[u8],
+) -> Fed
+    ensures { λ r. ⌜ fed (r .answer) (stateNumbers (r .state)) (memory (now (rows .exit)) (now (store .exit)) (now (strings .exit)) (now (objects .exit)) (now (traits .exit)) (now (names .exit))) ≡ feedCall (stateNumbers s) (memory (now (rows .entry)) (now (store .entry)) (now (strings .entry)) (now (objects .entry)) (now (traits .entry)) (now (names .entry))) (now (piece .entry)) ⌝ }
+{
+    let h = s.head;
+    let mut frames = s.frames;
+    let out = fed_in(
+        h,
+        &mut frames,
+        rows,
+        store,
+        strings,
+        objects,
+        traits,
+        names,
+        piece,
+    );
+    let head = out.head;
+    let answer = out.answer;
+    Fed {
+        state: State { head, frames },
+        answer,
+    }
+}
+
+// Why a state that has not ended is refused at the end: 2 where it waits, 12 where it was never begun.
+fn end_refusal(h: Head) -> Refusal
+    ensures { λ r. ⌜ r ≡ endRefusal h ⌝ }
+{
+    if h.status == WAITING {
+        return decide::refuse(h.cursor, TOO_SHORT, 0);
+    }
+    decide::lost()
+}
+
+// The end is declared: what waits is refused with 2.
+pub fn ended(
+    s: State,
+    rows: &mut [usize],
+    store: &mut [u8],
+    strings: &mut [usize],
+    objects: &mut [usize],
+    traits: &mut [usize],
+    names: &mut [usize],
+) -> Fed
+    ensures { λ r. ⌜ fed (r .answer) (stateNumbers (r .state)) (memory (now (rows .exit)) (now (store .exit)) (now (strings .exit)) (now (objects .exit)) (now (traits .exit)) (now (names .exit))) ≡ endCall (stateNumbers s) (memory (now (rows .entry)) (now (store .entry)) (now (strings .entry)) (now (objects .entry)) (now (traits .entry)) (now (names .entry))) ⌝ }
+{
+    let h = s.head;
+    let frames = s.frames;
+    if has_ended(h) {
+        return answered(h, frames, 0);
+    }
+    rows::clear(rows, store, strings, objects, traits, names);
+    let refused = Next::Refused(end_refusal(h));
+    answered(head_after(h.lent, refused), frames, 0)
 }

@@ -2,6 +2,7 @@
 pub mod Tests
 pub mod Lists
 pub mod Memories
+pub mod Columns
 pub mod Ground
 -- The worked examples, and that each call has one outcome.
 pub mod Examples
@@ -68,3 +69,4 @@ pub mod Finishes
 -- What an accepted writing wrote, read again.
 pub mod Again
 pub mod Trip
+pub mod Stores

@@ -254,12 +254,12 @@ module _ (n : Numbers) (k : Memory) (e : Ended) (h : stateOf n k ≡ over e) whe
   unfolding byteStep
   byte-over b = rw h
 
-  run-still : (bs : List ℕ) → runHeld (held n k) bs ≡ held n k
+  pub run-still : (bs : List ℕ) → runHeld (held n k) bs ≡ held n k
   unfolding runHeld
   run-still [] = refl
   run-still (b ∷ bs) = rw (byte-over b) (run-still bs)
 
-  taken-still : (bs : List ℕ) → takenBy (held n k) bs ≡ 0
+  pub taken-still : (bs : List ℕ) → takenBy (held n k) bs ≡ 0
   unfolding takenBy
   taken-still [] = refl
   taken-still (b ∷ bs) = rw (byte-over b, h) (zero-add _ ∙ taken-still bs)

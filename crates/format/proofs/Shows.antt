@@ -143,7 +143,7 @@ pub record Shows (lent : Lent) (at : ℕ) (s : State) (h : Held) : Type 0 where
   pub lengths : (numbersIn h) .head .lent ≡ lent
   pub room : length ((numbersIn h) .frames) ≡ openLimit * 6
 
-good-shown : {lent : Lent} {at : ℕ} (s : State) → Good lent at s → Shown s
+pub good-shown : {lent : Lent} {at : ℕ} (s : State) → Good lent at s → Shown s
 good-shown s (waits {x = x} {ts = ts} h f u) = few x (length ts) f
   where
     few : (x : Mode) (n : ℕ) → Fits x n → n ≤ openLimit
@@ -169,7 +169,7 @@ room-numbered n s (waits h f u) = length-laid (n .frames) _
 room-numbered n s (finishes h) = refl
 room-numbered n s (declines t h z) = refl
 
-shows-after : {lent : Lent} {at : ℕ} (n : Numbers) (s : State) → Good lent at s → n .head .lent ≡ lent → length (n .frames) ≡ openLimit * 6
+pub shows-after : {lent : Lent} {at : ℕ} (n : Numbers) (s : State) → Good lent at s → n .head .lent ≡ lent → length (n .frames) ≡ openLimit * 6
     → Shows lent at s (afterStep n s)
 unfolding afterStep
 shows-after n s g l r =
@@ -211,7 +211,7 @@ shows-begin m = shows-after (blank (lentOf m)) (begin m) (good-begin m) refl (le
 pub good-along : (m : Memory) (bs : List ℕ) → Good (lentOf m) (takes (begin m) bs) (run (begin m) bs)
 good-along m bs = rw zero-add at (good-run (begin m) bs (good-begin m))
 
-good-waits : {lent : Lent} {at : ℕ} {x : Mode} {ts : List Frame} {c : Cursor} {m : Memory} → Good lent at (wait x ts c m)
+pub good-waits : {lent : Lent} {at : ℕ} {x : Mode} {ts : List Frame} {c : Cursor} {m : Memory} → Good lent at (wait x ts c m)
     → Holds lent at c m × Fits x (length ts) × ModeIn x c
 good-waits (waits h f u) = (h, f, u)
 
@@ -241,7 +241,7 @@ good-lends s (declines t h z) = h
 pub lengths-along : (m : Memory) (bs : List ℕ) → lentOf (memoryOf (run (begin m) bs)) ≡ lentOf m
 lengths-along m bs = good-lends (run (begin m) bs) (good-along m bs)
 
-good-sound : (lent : Lent) (x : Mode) (ts : List Frame) (c : Cursor) (m : Memory) → sound lent x ts c m ≡ true → Good (lentOf m) (c .at) (wait x ts c m)
+pub good-sound : (lent : Lent) (x : Mode) (ts : List Frame) (c : Cursor) (m : Memory) → sound lent x ts c m ≡ true → Good (lentOf m) (c .at) (wait x ts c m)
 good-sound lent x ts c m e =
     let (((((s, z), w), f), n), u) = (tests-sound lent x ts c m) .said e in
     waits (record { lends = refl; clean = fault-in m ∙ z; place = refl; within = w; counts = n }) f u

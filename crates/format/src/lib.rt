@@ -36,6 +36,7 @@ pub enum Written {
 }
 
 // The lengths of the loans at the beginning.
+#[repr(C)]
 pub struct Lent {
     pub rows: usize,
     pub store: usize,
@@ -46,6 +47,7 @@ pub struct Lent {
 }
 
 // What the next byte is for: a mode and the numbers that it works with.
+#[repr(C)]
 pub struct Work {
     pub mode: usize,
     pub purpose: usize,
@@ -59,6 +61,7 @@ pub struct Work {
 }
 
 // A state beside its frames: whether it waits, a refusal, the loans' lengths, what is used, how many values are open, and the work.
+#[repr(C)]
 pub struct Head {
     pub status: usize,
     pub number: usize,

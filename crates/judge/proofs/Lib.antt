@@ -1,4 +1,3 @@
-pub mod Columns
 pub mod Counts
 pub mod Texts
 pub mod Leasts

@@ -1,13 +1,12 @@
--- Parts of the store, and texts that are known.
-use mathlib.Core.Path.{_≡_, refl, sym, _∙_}
+-- Texts that are known.
+use mathlib.Core.Path.{_≡_, refl, sym}
 use mathlib.Core.Bool.{Bool, true, false, cond, not, _&&_}
 use mathlib.Core.List.{List, [], _∷_}
 use mathlib.Core.Logic.{_≢_}
-use Prim.Native.Nat.{ℕ, _+_, _-_, _<_, _≤_}
+use Prim.Native.Nat.{ℕ, _-_}
 use native.Mathlib.Omega.{arith}
 use lib.Dec.{eqb, ltb}
-use lib.ListN.{length, getD, take, drop, length-drop, drop-of-length-le}
-use lib.Seq.{take-all, take-nil}
+use lib.ListN.{length, getD}
 use Rattle.rows.specs.declared.Span.{Span}
 use Rattle.rows.specs.Memory.{span, colKind, colKeySize, colBodyBegin, colBodySize, colClassMark}
 use Rattle.rows.specs.Kinds.{kindObject}
@@ -26,25 +25,9 @@ isValid B s = validText (part B (s .begin) (s .size)) ≡ true
 abbrev named : List ℕ → List ℕ → ℕ → Bool
 named R B i = cond (eqb (col R i colKind) kindObject) (ltb 0 (col R i colBodySize)) (not (isStar (bodyOf R B i)))
 
--- ---- a part, as far as it is there
-
-module _ (B : List ℕ) (begin size : ℕ) where
-  pub part-none : length B ≤ begin → [] ≡ part B begin size
-  unfolding part
-  part-none h = rw (drop-of-length-le B h, take-nil)
-
-  pub part-whole : take (begin + size - begin) (drop begin B) ≡ part B begin size
-  unfolding part
-  part-whole = let e : begin + size - begin ≡ size = omega arith in rw e
-
-  pub part-rest : length B - begin < size → take (length B - begin) (drop begin B) ≡ part B begin size
-  unfolding part
-  part-rest h = take-all (length B - begin) (drop begin B) (rw length-drop (omega arith)) ∙ sym (take-all size (drop begin B) (rw length-drop (omega arith)))
-
-  -- ---- a text that was judged before
-
-  pub same-text : (b z : ℕ) → begin ≡ b → size ≡ z → validText (part B b z) ≡ true → true ≡ validText (part B begin size)
-  same-text b z e f h = rw (e, f) (sym h)
+-- a text that was judged before
+pub same-text : (B : List ℕ) (begin size b z : ℕ) → begin ≡ b → size ≡ z → validText (part B b z) ≡ true → true ≡ validText (part B begin size)
+same-text B begin size b z e f h = rw (e, f) (sym h)
 
 pub none-valid : (B : List ℕ) → isValid B (span 0 0)
 unfolding part validText follow

@@ -50,8 +50,6 @@ const KIND_INTEGER: usize = 4;
 
 const KIND_DOUBLE: usize = 5;
 
-const KIND_STRING: usize = 6;
-
 const KIND_XML_DOCUMENT: usize = 7;
 
 const KIND_DATE: usize = 8;
@@ -59,8 +57,6 @@ const KIND_DATE: usize = 8;
 const KIND_ARRAY: usize = 9;
 
 const KIND_OBJECT: usize = 10;
-
-const KIND_XML: usize = 11;
 
 const KIND_BYTE_ARRAY: usize = 12;
 
@@ -142,18 +138,6 @@ fn within(kind: usize, first: usize, last: usize) -> bool
     kind <= last
 }
 
-fn has_text(kind: usize) -> bool
-    ensures { λ r. ⌜ r ≡ t.hasText kind ⌝ }
-{
-    if kind == KIND_STRING {
-        return true;
-    }
-    if kind == KIND_XML_DOCUMENT {
-        return true;
-    }
-    kind == KIND_XML
-}
-
 fn is_raw(kind: usize) -> bool
     ensures { λ r. ⌜ r ≡ t.isRaw kind ⌝ }
 {
@@ -163,7 +147,7 @@ fn is_raw(kind: usize) -> bool
 fn has_body(kind: usize) -> bool
     ensures { λ r. ⌜ r ≡ t.hasBody kind ⌝ }
 {
-    if has_text(kind) {
+    if text::has_text(kind) {
         return true;
     }
     if kind == KIND_BYTE_ARRAY {
@@ -536,21 +520,6 @@ fn walk(rows: &[usize], i: usize, wrong: usize, empty: usize) -> Walked
 
 // ---- 14
 
-// The part of the store, as far as it is there.
-fn part(store: &[u8], begin: usize, size: usize) -> &[u8]
-    ensures { λ r. ⌜ now r ≡ u.part (now (store .entry)) begin size ⌝ }
-{
-    if store.len() <= begin {
-        return &store[..0];
-    }
-    let rest = store.len() - begin;
-    if size <= rest {
-        let end = begin + size;
-        return &store[begin..end];
-    }
-    &store[begin..]
-}
-
 // Whether a part of the store is valid text; `known` is, and not judged again.
 fn is_text(store: &[u8], begin: usize, size: usize, known: Span) -> bool
     requires { ⌜ validText (u.part (now store) (known .begin) (known .size)) ≡ true ⌝ }
@@ -561,7 +530,7 @@ fn is_text(store: &[u8], begin: usize, size: usize, known: Span) -> bool
             return true;
         }
     }
-    utf8::valid(part(store, begin, size))
+    utf8::valid(text::clip(store, begin, size))
 }
 
 fn is_star(s: &[u8]) -> bool
@@ -593,7 +562,7 @@ fn body_writable(rows: &[usize], store: &[u8], i: usize, kind: usize, known: Spa
 {
     let begin = cell(rows, i, COL_BODY_BEGIN);
     let size = cell(rows, i, COL_BODY_SIZE);
-    if has_text(kind) {
+    if text::has_text(kind) {
         return is_text(store, begin, size, known);
     }
     if !has_class(kind) {
@@ -608,7 +577,7 @@ fn body_writable(rows: &[usize], store: &[u8], i: usize, kind: usize, known: Spa
     if kind == KIND_OBJECT {
         return 0 < size;
     }
-    !is_star(part(store, begin, size))
+    !is_star(text::clip(store, begin, size))
 }
 
 // All that is asked of a row that is well formed, but that its key is not empty where it is given so. `key` and `body` are valid text.
@@ -650,7 +619,7 @@ fn last_body(rows: &[usize], i: usize, known: Span) -> Span
     let kind = cell(rows, i, COL_KIND);
     let begin = cell(rows, i, COL_BODY_BEGIN);
     let size = cell(rows, i, COL_BODY_SIZE);
-    if has_text(kind) {
+    if text::has_text(kind) {
         return Span { begin, size };
     }
     if has_class(kind) {

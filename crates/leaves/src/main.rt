@@ -17,8 +17,6 @@ use wire::Date;
 use wire::Part;
 use wire::Put;
 use wire::Read;
-ghost use mathlib.Core.Path.{_≡_};
-ghost use lib.ListN.{length};
 
 // ---- the words of a line
 
@@ -377,22 +375,8 @@ fn report_all(text: &[u8]) {
     report(text, Kind::Text, b"text ");
 }
 
-// Room for the whole list.
-fn list_room() -> [u8; 400000]
-    ensures { λ r. ⌜ 400000 ≡ length r ⌝ }
-{
-    [0; 400000]
-}
-
 fn main() {
-    let mut text = list_room();
-    let path = b"leaves.txt";
-    let file = os::open_read(path);
-    if file < 0 {
-        os::fail(path);
-        return;
-    }
-    let n = io::read_full(file, &mut text);
-    libc::close(file);
+    let mut text = lines::room();
+    let n = lines::load(b"leaves.txt", &mut text);
     report_all(&text[0..n]);
 }

@@ -1,8 +1,23 @@
-// Lists of vectors: their lines, the words of a line, and the tally of right and wrong ones.
+// Lists of vectors: their lines, the words of a line, and the tally of right and wrong ones. What a function answers is its
+// definition in specs/Lines.antt.
 
 use libc::STDOUT_FILENO;
+ghost use mathlib.Core.Path.{_≡_};
 ghost use Prim.Native.Nat.{_≤_};
 ghost use lib.ListN.{length};
+ghost use Rattle.lines.specs.Lines.{
+  digitOf,
+  behindOf,
+  numberAt,
+  filled,
+  fillAt,
+  equal,
+  lineEnd,
+  beginsWith,
+  noTally,
+  passedOf,
+  talliedOf,
+};
 
 // ---- the words of a line
 
@@ -12,12 +27,17 @@ pub enum Word {
     Missing,
 }
 
-fn wide(x: u8) -> usize {
+// A byte as a number of 64 bits.
+fn wide(x: u8) -> usize
+    ensures { λ r. ⌜ r ≡ x ⌝ }
+{
     x as usize
 }
 
 // A hexadecimal digit, or 16 for any other byte.
-fn digit(b: u8) -> u8 {
+fn digit(b: u8) -> u8
+    ensures { λ r. ⌜ r ≡ digitOf b ⌝ }
+{
     match b {
         b'0'..=b'9' => b - b'0',
         b'a'..=b'f' => b - 87,
@@ -26,15 +46,19 @@ fn digit(b: u8) -> u8 {
 }
 
 // The place behind the blank or line end at `at`.
-pub fn behind(line: &[u8], at: usize) -> usize {
+pub fn behind(line: &[u8], at: usize) -> usize
+    ensures { λ r. ⌜ r ≡ behindOf (now (line .entry)) at ⌝ }
+{
     if at < line.len() {
         return at + 1;
     }
     at
 }
 
-// The hexadecimal number at `at`.
-pub fn number(line: &[u8], at: usize) -> Word {
+// The hexadecimal number at `at`, or its low 64 bits.
+pub fn number(line: &[u8], at: usize) -> Word
+    ensures { λ r. ⌜ r ≡ numberAt (now (line .entry)) at ⌝ }
+{
     let mut n: usize = 0;
     let mut p = at;
     while p < line.len() {
@@ -51,8 +75,11 @@ pub fn number(line: &[u8], at: usize) -> Word {
     Word::Of(n, behind(line, p))
 }
 
-// Puts the bytes that stand at `at`, two digits each, into `out`. The number is how many there are, perhaps none.
-pub fn bytes(line: &[u8], at: usize, out: &mut [u8]) -> Word {
+// Puts the bytes that stand at `at`, two digits each, into `out`. The number is how many there are, perhaps none. Where a digit or
+// room is missing, the bytes before it are put all the same.
+pub fn bytes(line: &[u8], at: usize, out: &mut [u8]) -> Word
+    ensures { λ r. ⌜ filled r (now (out .exit)) ≡ fillAt (now (line .entry)) at (now (out .entry)) ⌝ }
+{
     let mut n: usize = 0;
     let mut p = at;
     while p < line.len() {
@@ -78,7 +105,10 @@ pub fn bytes(line: &[u8], at: usize, out: &mut [u8]) -> Word {
     Word::Of(n, behind(line, p))
 }
 
-pub fn same(a: &[u8], b: &[u8]) -> bool {
+// Whether two slices hold the same bytes.
+pub fn same(a: &[u8], b: &[u8]) -> bool
+    ensures { λ r. ⌜ r ≡ equal (now (a .entry)) (now (b .entry)) ⌝ }
+{
     if a.len() != b.len() {
         return false;
     }
@@ -94,9 +124,31 @@ pub fn same(a: &[u8], b: &[u8]) -> bool {
 
 // ---- the lines of a text
 
+// Room for the text of a list.
+pub fn room() -> [u8; 500000]
+    ensures { λ r. ⌜ 500000 ≡ length r ⌝ }
+{
+    [0; 500000]
+}
+
+// Reads the file at `path` into `text`, as far as there is room. The answer is how many bytes it has; 0, with a message, where it can't be read. What
+// they are, a contract cannot say.
+pub fn load(path: &[u8], text: &mut [u8]) -> usize
+    ensures { λ r. ⌜ r ≤ length (now (text .entry)) ⌝ }
+{
+    let file = os::open_read(path);
+    if file < 0 {
+        os::fail(path);
+        return 0;
+    }
+    let n = io::read_full(file, text);
+    libc::close(file);
+    n
+}
+
 // The place behind the line that goes on at `at`.
 pub fn line_end(text: &[u8], at: usize) -> usize
-    ensures { λ r. ⌜ r ≤ length (now (text .entry)) ⌝ }
+    ensures { λ r. ⌜ r ≡ lineEnd (now (text .entry)) at ⌝ }
 {
     let mut i = at;
     while i < text.len() {
@@ -109,7 +161,9 @@ pub fn line_end(text: &[u8], at: usize) -> usize
 }
 
 // Whether a line is of the kind `name`.
-pub fn begins(line: &[u8], name: &[u8]) -> bool {
+pub fn begins(line: &[u8], name: &[u8]) -> bool
+    ensures { λ r. ⌜ r ≡ beginsWith (now (line .entry)) (now (name .entry)) ⌝ }
+{
     if line.len() < name.len() {
         return false;
     }
@@ -126,7 +180,10 @@ pub struct Tally {
     pub first: u64,
 }
 
-pub fn no_tally() -> Tally {
+// The tally before the first line.
+pub fn no_tally() -> Tally
+    ensures { λ r. ⌜ r ≡ noTally ⌝ }
+{
     Tally {
         lines: 0,
         right: 0,
@@ -136,13 +193,17 @@ pub fn no_tally() -> Tally {
 }
 
 // A tally after a line of another kind.
-pub fn passed(mut t: Tally) -> Tally {
+pub fn passed(mut t: Tally) -> Tally
+    ensures { λ r. ⌜ r ≡ passedOf t ⌝ }
+{
     t.lines = std::num::wrapping_add_u64(t.lines, 1);
     t
 }
 
 // A tally after a line of its kind.
-pub fn tallied(mut t: Tally, right: bool) -> Tally {
+pub fn tallied(mut t: Tally, right: bool) -> Tally
+    ensures { λ r. ⌜ r ≡ talliedOf t right ⌝ }
+{
     t.lines = std::num::wrapping_add_u64(t.lines, 1);
     if right {
         t.right = std::num::wrapping_add_u64(t.right, 1);
@@ -155,6 +216,8 @@ pub fn tallied(mut t: Tally, right: bool) -> Tally {
     t
 }
 
+// Prints a line: `name`, how many were right and how many wrong, and if any was wrong the number of the first such line. It only
+// prints: a contract cannot speak of output.
 pub fn report(name: &[u8], t: Tally) {
     io::write_all(STDOUT_FILENO, name);
     io::print_decimal(STDOUT_FILENO, t.right);

@@ -5,7 +5,6 @@ use mathlib.Core.List.{List}
 use Prim.Native.Nat.{ℕ, zero, suc, _+_, _-_, _/_, _≤_, _<_}
 use native.Mathlib.Omega.{arith}
 use native.Mathlib.Decide.{decLe}
-use borrow.Author.Tests.{le-leb, lt-leb, le-ltb}
 use lib.Dec.{leb, eqb}
 use lib.ListN.{length, getD, take, drop, set, length-set}
 use lib.Seq.{sets, slice, slice-cons, slice-empty, drop-cons, set-set}
@@ -17,19 +16,12 @@ use Rattle.utf8.specs.States.{stepOf, foldOf}
 use Rattle.utf8.proofs.Fold.{fold-valid}
 use Rattle.decide.specs.declared.Refusal.{Refusal}
 use Rattle.decide.specs.Held.{stopped}
-use Rattle.format.specs.Decide.{give, Width, widthOf, onRows, stored, grown}
+use Rattle.format.specs.Decide.{give, Width, widthOf, onRows, grown}
 use Rattle.format.specs.Reading.{Reader, ok, byte, taken, fill, chars, filled, charsOf, ret, by, _>>=_}
+use Rattle.format.proofs.Stores.{place, stored-there}
 use Rattle.parts.specs.Held.{result, cleared, reads, shortAt, movedTo}
 use Rattle.parts.proofs.Then.{refused}
 use Rattle.parts.proofs.Ends.{there, over, next, byte-there, byte-over, short-next, refusing, is-here, not-here}
-
--- a byte of a span that is used
-stored-there : (s : Span) (n b : ℕ) (B : List ℕ) (c : Cursor) → s .begin + s .size ≤ c .store → c .store ≤ length B → n < s .size
-    → stored s n b B c ≡ give tt (set B (s .begin + (s .size - suc n)) b) c
-unfolding stored
-stored-there s n b B c h g l =
-    let e : n + 1 ≡ suc n = omega arith in
-    rw (le-ltb (length B) (c .store) g, lt-leb (s .size) n l, le-leb (s .begin + s .size) (c .store) h, e)
 
 -- a part is copied from its first element on
 copy-first : (B msg : List ℕ) (i j at to : ℕ) → suc i ≡ j → at < to → to ≤ length msg
@@ -39,10 +31,6 @@ copy-first B msg i j at to e h g = ap (sets B i) (slice-cons at to msg 0 h g) �
 zeroed-same : (R R′ B B′ T O U N : List ℕ) → length R ≡ length R′ → length B ≡ length B′ → zeroed (memory R B T O U N) ≡ zeroed (memory R′ B′ T O U N)
 unfolding zeroed
 zeroed-same R R′ B B′ T O U N e f = rw (e, f)
-
--- the place in the store of a byte after which n more come
-abbrev place : Span → ℕ → ℕ
-place s n = s .begin + (s .size - suc n)
 
 -- ---- a body: after each byte g does to the rows what `grow` says
 

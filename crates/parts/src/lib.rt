@@ -211,14 +211,14 @@ fn checked(message: &[u8], store: &mut [u8], c: Cursor, s: Span) -> Whether
     Whether::No(short(message.len(), at))
 }
 
-// A new text of `n` bytes, which enters the strings; an empty one doesn't.
-fn new_text(message: &[u8], store: &mut [u8], strings: &mut [usize], c: Cursor, n: usize) -> Text
-    ensures { λ x. ⌜ ((R O U N : List ℕ) → result (textOf x) (memory R (now (store .exit)) (now (strings .exit)) O U N) (now (message .entry)) ≡ reads (r.textOf r.plain (New n)) (memory R (now (store .entry)) (now (strings .entry)) O U N) c (now (message .entry))) ⌝ }
+// A new text of `size` bytes, which enters the strings; an empty one doesn't.
+fn new_text(message: &[u8], store: &mut [u8], strings: &mut [usize], c: Cursor, size: usize) -> Text
+    ensures { λ x. ⌜ ((R O U N : List ℕ) → result (textOf x) (memory R (now (store .exit)) (now (strings .exit)) O U N) (now (message .entry)) ≡ reads (r.textOf r.plain (New size)) (memory R (now (store .entry)) (now (strings .entry)) O U N) c (now (message .entry))) ⌝ }
 {
-    if n == 0 {
+    if size == 0 {
         return Text::Have(Span { begin: 0, size: 0 }, c);
     }
-    let a = decide::reserved(store.len(), c, n);
+    let a = decide::reserved(store.len(), c, size);
     let Text::Have(s, c1) = a else {
         return a;
     };

@@ -6,7 +6,8 @@ use Rattle.format.specs.declared.Answer.{Answer}
 use Rattle.format.specs.declared.Answer.the-variants.{Waiting, Finished, Refused}
 use Rattle.format.specs.declared.Written.{Written}
 use Rattle.format.specs.declared.Written.the-variants.{Bytes, Unwritten}
-use Rattle.format.specs.Answers.{Read, read, Output, output}
+use Rattle.format.specs.Numbers.{Numbers}
+use Rattle.format.specs.Answers.{Fed, fed, Read, read, Output, output}
 use Rattle.format.specs.Text.{Found, nowhere, found}
 use Rattle.pinebuckle.specs.declared.Coded.{Coded}
 use Rattle.pinebuckle.specs.declared.Place.{Place}
@@ -24,7 +25,13 @@ abbrev pub writtenCode : Written → Coded
 writtenCode (Bytes n) = code 1 0 0 0 0 n 0
 writtenCode (Unwritten number told place) = code 2 number told place 0 0 0
 
--- an answer with the loans, with the output, that it left
+-- an answer with the state and the loans, with the loans, with the output, that it left
+pub data Passed : Type 0 where
+  passed : Coded → Numbers → Memory → Passed
+
+abbrev pub codedFed : Fed → Passed
+codedFed (fed a s m) = passed (codeOf a) s m
+
 pub data Left : Type 0 where
   left : Coded → Memory → Left
 

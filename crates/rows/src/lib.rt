@@ -6,7 +6,7 @@ ghost use Prim.Native.Nat.{_+_, _<_, _≤_, _/_, _%_};
 ghost use lib.Dec.{leb, ltb, eqb};
 ghost use lib.ListN.{length};
 ghost use lib.Seq.{sets, slice};
-ghost use Rattle.rows.specs.Memory.{rowWidth, loanFault, zeros, putRow, columnAt, keyAt, bodyAt, rowAt};
+ghost use Rattle.rows.specs.Memory.{rowWidth, loanFault, zeros, putRow, columnAt, keyAt, bodyAt, rowAt, memory, zeroed, noKey, keyOf};
 ghost use Rattle.rows.specs.Memory.{colKind, colClassMark, colFlag, colNumber, colCount, colCount2, colEnd};
 
 const ROW_WIDTH: usize = 12;
@@ -16,6 +16,7 @@ const SPAN_WIDTH: usize = 2;
 const TRAIT_WIDTH: usize = 5;
 
 // The bytes taken, and how many entries of each loan are used.
+#[repr(C)]
 pub struct Cursor {
     pub at: usize,
     pub rows: usize,
@@ -27,6 +28,7 @@ pub struct Cursor {
 }
 
 // A part of the byte store.
+#[repr(C)]
 pub struct Span {
     pub begin: usize,
     pub size: usize,
@@ -40,6 +42,7 @@ pub struct Key {
 }
 
 // An entry of the traits: the class, whether it is dynamic, its first name in the names, how many there are.
+#[repr(C)]
 pub struct Trait {
     pub begin: usize,
     pub size: usize,
@@ -126,6 +129,25 @@ pub fn zero_bytes(xs: &mut [u8])
     }
 }
 
+// Every loan of a reading, set to zero.
+pub fn clear(
+    rows: &mut [usize],
+    store: &mut [u8],
+    strings: &mut [usize],
+    objects: &mut [usize],
+    traits: &mut [usize],
+    names: &mut [usize],
+)
+    ensures { λ r. ⌜ memory (now (rows .exit)) (now (store .exit)) (now (strings .exit)) (now (objects .exit)) (now (traits .exit)) (now (names .exit)) ≡ zeroed (memory (now (rows .entry)) (now (store .entry)) (now (strings .entry)) (now (objects .entry)) (now (traits .entry)) (now (names .entry))) ⌝ }
+{
+    zero(rows);
+    zero_bytes(store);
+    zero(strings);
+    zero(objects);
+    zero(traits);
+    zero(names);
+}
+
 // `n` bytes of `src` from `from` on, to `dst` from `at` on.
 pub fn copy(dst: &mut [u8], at: usize, src: &[u8], from: usize, n: usize)
     requires { ⌜ (at + n ≤ length (now dst)) × (from + n ≤ length (now src)) ⌝ }
@@ -181,6 +203,29 @@ pub fn column(rows: &[usize], row: usize, col: usize) -> usize
         }
     }
     0
+}
+
+// ---- keys
+
+pub fn no_key() -> Key
+    ensures { λ r. ⌜ r ≡ noKey ⌝ }
+{
+    Key {
+        mark: 0,
+        begin: 0,
+        size: 0,
+    }
+}
+
+// A key of which this is the text.
+pub fn key_of(s: Span) -> Key
+    ensures { λ r. ⌜ r ≡ keyOf s ⌝ }
+{
+    Key {
+        mark: 1,
+        begin: s.begin,
+        size: s.size,
+    }
 }
 
 // ---- the columns by name, 0 where the row is not there

@@ -12,8 +12,8 @@ use Rattle.format.specs.declared.Frame.{Frame}
 use Rattle.format.specs.declared.Work.{Work}
 use Rattle.format.specs.Decide.{onRows, flagged, fixed, weak}
 use Rattle.format.specs.Step.{State, wait, on, broken, onward, keysOf, atString, forVector, filling, flagDone}
-use Rattle.step.specs.Held.{After, afterOf, withFlag, withRaw, IsFlag, IsRaw}
-use Rattle.step.proofs.Purposes.{between, purposed, rawOf, raws}
+use Rattle.resume.specs.Held.{After, afterOf, withFlag, withRaw, IsFlag, IsRaw}
+use Rattle.resume.proofs.Purposes.{between, purposed, rawOf, raws}
 
 abbrev pub flagFor : Work → ℕ → ℕ
 flagFor w b = cond (eqb (w .purpose) 10) (weak b) (fixed b)

@@ -13,8 +13,8 @@ use Rattle.format.specs.declared.Work.{Work}
 use Rattle.format.specs.Step.{Mode, atMarker, atWord, atNumber, atFlag, atText, atRaw, astray, Use, textWord, tableText, broken, flagDone, act}
 use Rattle.format.specs.Numbers.{modeOf, useAt, bodyAt, keyAt, depthFits}
 use Rattle.format.proofs.Tests.{clash}
-use Rattle.step.specs.Held.{After, afterOf, withText, withWord, withNumber, withFlag, withRaw, IsUse, IsText, IsWord, IsNumber, IsFlag, IsRaw}
-use Rattle.step.proofs.Purposes.{between, purposed, textOf, texts, wordOf, words, numberOf, numbers, flagOf, flags, rawOf, raws}
+use Rattle.resume.specs.Held.{After, afterOf, withText, withWord, withNumber, withFlag, withRaw, IsUse, IsText, IsWord, IsNumber, IsFlag, IsRaw}
+use Rattle.resume.proofs.Purposes.{between, purposed, textOf, texts, wordOf, words, numberOf, numbers, flagOf, flags, rawOf, raws}
 
 lost-mode : {X : Type 0} (x : Mode) (d : ℕ) → x ≡ astray → depthFits x d ≡ true → X
 lost-mode x d e h = clash (let q : depthFits astray d ≡ true = rw e at h in cc)

@@ -14,8 +14,8 @@ use Rattle.decide.specs.declared.Width.the-variants as width
 use Rattle.decide.specs.Held.{widthIn}
 use Rattle.format.specs.Decide.{looking, onRows, reserved, bodied, widthOf}
 use Rattle.format.specs.Step.{State, on, roomy}
-use Rattle.step.specs.Held.{After, afterOf, onText}
-use Rattle.step.proofs.Decided.{refusedWith}
+use Rattle.resume.specs.Held.{After, afterOf, onText}
+use Rattle.resume.proofs.Decided.{refusedWith}
 
 pub some-room : (row n : ℕ) (c : Cursor) (m : Memory) (f : Span → Cursor → Memory → State) → (n ≡ 0 → ⊥)
     → roomy row n c m f ≡ on (looking (λ m. reserved n (m .store)) m c) m (λ s c m. on (onRows (bodied row s) m c) m (λ x. f s))

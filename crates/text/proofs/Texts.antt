@@ -1,11 +1,12 @@
 -- A row's text, by the columns that are read.
 use mathlib.Core.Path.{_≡_, refl, sym, ap, _∙_}
 use mathlib.Core.Bool.{Bool, true, false, cond, _&&_}
-use mathlib.Core.List.{List}
-use Prim.Native.Nat.{ℕ, _+_, _-_}
+use mathlib.Core.List.{List, []}
+use Prim.Native.Nat.{ℕ, _+_, _-_, _<_, _≤_}
 use native.Mathlib.Omega.{arith}
 use lib.Dec.{leb}
-use lib.ListN.{length, take, drop}
+use lib.ListN.{length, take, drop, length-drop, drop-of-length-le}
+use lib.Seq.{take-all, take-nil}
 use Rattle.rows.specs.declared.Span.{Span}
 use Rattle.rows.specs.Memory.{columnAt, bodyAt, colKind}
 use Rattle.format.specs.RowTest.{hasText}
@@ -36,6 +37,20 @@ module _ (R B : List ℕ) (i : ℕ) {kind : ℕ} (k : kind ≡ columnAt R i colK
         by : (t : Bool) → cond (t && leb (col R i 4 + col R i 5) (length B)) (found (col R i 4) (col R i 5)) nowhere ≡ nowhere
         by true = simp (sym (within f) ∙ g)
         by false = refl
+
+-- a part, as far as it is there
+module _ (B : List ℕ) (begin size : ℕ) where
+  pub part-none : length B ≤ begin → [] ≡ part B begin size
+  unfolding part
+  part-none h = rw (drop-of-length-le B h, take-nil)
+
+  pub part-whole : take (begin + size - begin) (drop begin B) ≡ part B begin size
+  unfolding part
+  part-whole = let e : begin + size - begin ≡ size = omega arith in rw e
+
+  pub part-rest : length B - begin < size → take (length B - begin) (drop begin B) ≡ part B begin size
+  unfolding part
+  part-rest h = take-all (length B - begin) (drop begin B) (rw length-drop (omega arith)) ∙ sym (take-all size (drop begin B) (rw length-drop (omega arith)))
 
 -- the part that is returned
 pub part-there : (B default : List ℕ) (begin size : ℕ) {t u : Bool} → t ≡ true → u ≡ leb (begin + size) (length B) → u ≡ true

@@ -3,7 +3,7 @@
 use rows::Span;
 ghost use mathlib.Core.Path.{_≡_};
 ghost use Rattle.format.specs.RowTest.{hasText};
-ghost use Rattle.format.specs.Unfold.{home};
+ghost use Rattle.format.specs.Unfold.{home, part};
 ghost use Rattle.format.specs.Text.{textIn, textSpan, textOr};
 ghost use Rattle.text.specs.Held.{foundOf, partOr};
 
@@ -21,7 +21,8 @@ pub enum Found {
     At(Span),
 }
 
-fn has_text(kind: usize) -> bool
+// The kinds whose body is a text.
+pub fn has_text(kind: usize) -> bool
     ensures { λ r. ⌜ r ≡ hasText kind ⌝ }
 {
     if kind == KIND_STRING {
@@ -34,7 +35,7 @@ fn has_text(kind: usize) -> bool
 }
 
 // A reference stands for its target, another row for itself.
-fn home_of(rows: &[usize], row: usize) -> usize
+pub fn home_of(rows: &[usize], row: usize) -> usize
     ensures { λ r. ⌜ r ≡ home (now (rows .entry)) row ⌝ }
 {
     if rows::kind_at(rows, row) == KIND_REFERENCE {
@@ -64,6 +65,21 @@ pub fn span(rows: &[usize], store: &[u8], row: usize) -> Found
         return Found::Nowhere;
     }
     span_of(rows, store, home_of(rows, row))
+}
+
+// The part of the store, as far as it is there.
+pub fn clip(store: &[u8], begin: usize, size: usize) -> &[u8]
+    ensures { λ r. ⌜ now r ≡ part (now (store .entry)) begin size ⌝ }
+{
+    if store.len() <= begin {
+        return &store[..0];
+    }
+    let rest = store.len() - begin;
+    if size <= rest {
+        let end = begin + size;
+        return &store[begin..end];
+    }
+    &store[begin..]
 }
 
 // The part of the store, or the default where there is to be none or it doesn't lie in the store.

@@ -1,52 +1,30 @@
-// Holds `whole::read` and `writer::write` to vectors from outside, the lines of vectors.txt, and writes for each kind of line how many answers are right
-// and how many wrong. An answer is right if it and every number and byte that was lent are as the line says.
+// Holds `whole::read`, the feed and `writer::write` to vectors from outside, the lines of vectors.txt, and writes for each kind of line how many answers
+// are right and how many wrong. An answer is right if it and every number and byte that was lent are as the line says.
 //
 // The list and what this program has to write are made anew by
 //
 //     python3 tools/vectors.py FOLDER
 //
-// from the readings and writings in FOLDER, which an executable model of the format made. The first lines of vectors.txt have the form of each kind.
+// from the readings and writings in FOLDER, which an executable model of the format made, and from the examples of document 01. The first lines of
+// vectors.txt have the form of each kind.
 
 use format::Answer;
 use format::Written;
 use lines::Tally;
 use lines::Word;
-ghost use mathlib.Core.Path.{_≡_};
-ghost use lib.ListN.{length};
+use trials::COLUMNS;
+use trials::FILLING;
+use trials::FILLING_NUMBER;
+use trials::Way;
 
-// What every byte and number that is lent holds before a call.
-const FILLING: u8 = 0x5a;
-
-const FILLING_NUMBER: usize = 0x5a5a_5a5a_5a5a_5a5a;
-
-const COLUMNS: usize = 12;
-
-// ---- numbers and bytes of a line
-
-// Puts the `n` numbers that stand at `at` into `out`.
-fn numbers(line: &[u8], at: usize, n: usize, out: &mut [usize]) -> Word {
-    let mut i: usize = 0;
-    let mut p = at;
-    while i < n {
-        let Word::Of(x, next) = lines::number(line, p) else {
-            return Word::Missing;
-        };
-        if out.len() <= i {
-            return Word::Missing;
-        }
-        out[i] = x;
-        p = next;
-        i += 1;
-    }
-    Word::Of(n, p)
-}
+// ---- lists of a line
 
 // Puts the list that stands at `at` into `out`. The number is how many it has.
 fn list(line: &[u8], at: usize, out: &mut [usize]) -> Word {
     let Word::Of(n, p) = lines::number(line, at) else {
         return Word::Missing;
     };
-    numbers(line, p, n, out)
+    trials::numbers(line, p, n, out)
 }
 
 // Whether `xs` is the list that stands at `at`, and zero behind it. The number is how many the list has.
@@ -72,36 +50,7 @@ fn list_is(line: &[u8], at: usize, xs: &[usize]) -> Word {
         p = next;
         i += 1;
     }
-    if !zero_from(xs, n) {
-        return Word::Missing;
-    }
-    Word::Of(n, p)
-}
-
-fn zero_from(xs: &[usize], n: usize) -> bool {
-    let mut i = n;
-    while i < xs.len() {
-        if xs[i] != 0 {
-            return false;
-        }
-        i += 1;
-    }
-    true
-}
-
-// Whether `s` is the bytes that stand at `at`, and zero behind them. The number is how many stand there.
-fn bytes_are(line: &[u8], at: usize, s: &[u8]) -> Word {
-    let mut want = [0u8; 256];
-    let Word::Of(n, p) = lines::bytes(line, at, &mut want) else {
-        return Word::Missing;
-    };
-    if s.len() < n {
-        return Word::Missing;
-    }
-    if 256 < s.len() {
-        return Word::Missing;
-    }
-    if !lines::same(s, &want[0..s.len()]) {
+    if !trials::zero_from(xs, n) {
         return Word::Missing;
     }
     Word::Of(n, p)
@@ -109,34 +58,21 @@ fn bytes_are(line: &[u8], at: usize, s: &[u8]) -> Word {
 
 // ---- readings
 
-// Whether a reading answers `no`, with what is told; a finished one with what is used and taken.
-fn read_answers(
-    a: Answer,
-    no: usize,
-    told: usize,
-    place: usize,
-    taken: usize,
-    rows: usize,
-    bytes: usize,
-) -> bool {
-    match a {
-        Answer::Waiting { taken: t } => false,
-        Answer::Finished {
-            rows: r,
-            bytes: b,
-            taken: t,
-        } => no == 0 && told == 0 && place == 0 && t == taken && r == rows && b == bytes,
-        Answer::Refused {
-            no: n,
-            told: x,
-            place: y,
-            taken: t,
-        } => no != 0 && n == no && x == told && y == place && t == taken,
-    }
+// Whether an answer tells what is used of the rows and the store, if it is a finished one.
+fn tells_used(a: Answer, rows: usize, bytes: usize) -> bool {
+    let Answer::Finished {
+        rows: r,
+        bytes: b,
+        taken: t,
+    } = a
+    else {
+        return true;
+    };
+    r == rows && b == bytes
 }
 
-// NO TOLD PLACE TAKEN, and what is used of each loan
-fn reading_is(
+// Whether what is used of each loan is as the line says from `at` to its end, and as the answer tells.
+fn used_so(
     line: &[u8],
     at: usize,
     a: Answer,
@@ -147,14 +83,10 @@ fn reading_is(
     traits: &[usize],
     names: &[usize],
 ) -> bool {
-    let mut said = [0usize; 4];
-    let Word::Of(_, p) = numbers(line, at, 4, &mut said) else {
+    let Word::Of(n, after_rows) = list_is(line, at, rows) else {
         return false;
     };
-    let Word::Of(n, after_rows) = list_is(line, p, rows) else {
-        return false;
-    };
-    let Word::Of(bytes, after_store) = bytes_are(line, after_rows, store) else {
+    let Word::Of(bytes, after_store) = trials::bytes_are(line, after_rows, store, 0) else {
         return false;
     };
     let Word::Of(_, after_strings) = list_is(line, after_store, strings) else {
@@ -169,17 +101,16 @@ fn reading_is(
     let Word::Of(_, end) = list_is(line, after_traits, names) else {
         return false;
     };
-    if end != line.len() {
-        return false;
-    }
-    read_answers(a, said[0], said[1], said[2], said[3], n / COLUMNS, bytes)
+    end == line.len() && tells_used(a, n / COLUMNS, bytes)
 }
 
-// Whether a message is read into these loans as the line says from `at` on.
-fn read_lent(
+// Whether a message that comes in this way, into these loans, goes as the line says.
+fn lent_right(
     line: &[u8],
     at: usize,
+    way: Way,
     message: &[u8],
+    asked: [usize; 10],
     rows: &mut [usize],
     store: &mut [u8],
     strings: &mut [usize],
@@ -187,46 +118,37 @@ fn read_lent(
     traits: &mut [usize],
     names: &mut [usize],
 ) -> bool {
-    let a = whole::read(rows, store, strings, objects, traits, names, message);
-    reading_is(line, at, a, rows, store, strings, objects, traits, names)
+    let went = trials::come(way, message, rows, store, strings, objects, traits, names);
+    if !trials::went_so(way, went, asked[6], asked[7], asked[8], asked[9]) {
+        return false;
+    }
+    let a = went.answer;
+    used_so(line, at, a, rows, store, strings, objects, traits, names)
 }
 
-// The same of filled loans of the lengths `lent`.
-fn read_right(line: &[u8], at: usize, message: &[u8], lent: [usize; 6]) -> bool {
+// The same of filled loans. What is asked: the lengths of the loans, and the answer.
+fn way_right(line: &[u8], at: usize, way: Way, message: &[u8], asked: [usize; 10]) -> bool {
     let mut rows = [FILLING_NUMBER; 768];
     let mut store = [FILLING; 256];
     let mut strings = [FILLING_NUMBER; 32];
-    let mut objects = [FILLING_NUMBER; 16];
+    let mut objects = [FILLING_NUMBER; 64];
     let mut traits = [FILLING_NUMBER; 40];
     let mut names = [FILLING_NUMBER; 32];
-    let n1 = lent[0];
-    let n2 = lent[1];
-    let n3 = lent[2];
-    let n4 = lent[3];
-    let n5 = lent[4];
-    let n6 = lent[5];
-    if 768 < n1 {
+    let n1 = asked[0];
+    let n2 = asked[1];
+    let n3 = asked[2];
+    let n4 = asked[3];
+    let n5 = asked[4];
+    let n6 = asked[5];
+    if 768 < n1 || 256 < n2 || 32 < n3 || 64 < n4 || 40 < n5 || 32 < n6 {
         return false;
     }
-    if 256 < n2 {
-        return false;
-    }
-    if 32 < n3 {
-        return false;
-    }
-    if 16 < n4 {
-        return false;
-    }
-    if 40 < n5 {
-        return false;
-    }
-    if 32 < n6 {
-        return false;
-    }
-    read_lent(
+    lent_right(
         line,
         at,
+        way,
         message,
+        asked,
         &mut rows[0..n1],
         &mut store[0..n2],
         &mut strings[0..n3],
@@ -236,20 +158,45 @@ fn read_right(line: &[u8], at: usize, message: &[u8], lent: [usize; 6]) -> bool 
     )
 }
 
-// MESSAGE, the lengths of the loans, and the answer
-fn reading_right(line: &[u8], from: usize) -> bool {
-    let mut message = [0u8; 64];
+// Whether a message in two pieces, cut at each of its bytes, goes as the line says.
+fn cuts_right(line: &[u8], at: usize, message: &[u8], asked: [usize; 10]) -> bool {
+    for cut in 0..=message.len() {
+        if !way_right(line, at, Way::Cut(cut), message, asked) {
+            return false;
+        }
+    }
+    true
+}
+
+// How the messages of a kind of line come.
+enum Ways {
+    Whole,
+    Cuts,
+    Pieces,
+}
+
+// MESSAGE, what is asked, and what is used
+fn reading_right(ways: Ways, line: &[u8], from: usize) -> bool {
+    let mut message = [0u8; 200];
     let Word::Of(len, p) = lines::bytes(line, from, &mut message) else {
         return false;
     };
-    let mut lent = [0usize; 6];
-    let Word::Of(_, q) = numbers(line, p, 6, &mut lent) else {
-        return false;
-    };
-    if 64 < len {
+    if 200 < len {
         return false;
     }
-    read_right(line, q, &message[0..len], lent)
+    let mut asked = [0usize; 10];
+    let Word::Of(_, at) = trials::numbers(line, p, 10, &mut asked) else {
+        return false;
+    };
+    let bytes = &message[0..len];
+    match ways {
+        Ways::Whole => way_right(line, at, Way::Whole, bytes, asked),
+        Ways::Cuts => cuts_right(line, at, bytes, asked),
+        Ways::Pieces => {
+            way_right(line, at, Way::Pieces(len), bytes, asked)
+                && way_right(line, at, Way::Pieces(1), bytes, asked)
+        }
+    }
 }
 
 // ---- writings
@@ -269,23 +216,13 @@ fn write_answers(w: Written, no: usize, told: usize, place: usize, bytes: usize)
 // NO TOLD PLACE BYTES; behind the bytes the output is as it was.
 fn writing_is(line: &[u8], at: usize, w: Written, out: &[u8]) -> bool {
     let mut said = [0usize; 3];
-    let Word::Of(_, p) = numbers(line, at, 3, &mut said) else {
+    let Word::Of(_, p) = trials::numbers(line, at, 3, &mut said) else {
         return false;
     };
-    let mut want = [FILLING; 512];
-    let Word::Of(n, end) = lines::bytes(line, p, &mut want) else {
+    let Word::Of(n, end) = trials::bytes_are(line, p, out, FILLING) else {
         return false;
     };
-    if end != line.len() {
-        return false;
-    }
-    if out.len() < n {
-        return false;
-    }
-    if 512 < out.len() {
-        return false;
-    }
-    write_answers(w, said[0], said[1], said[2], n) && lines::same(out, &want[0..out.len()])
+    end == line.len() && write_answers(w, said[0], said[1], said[2], n)
 }
 
 // Whether rows are written into this output as the line says from `at` on.
@@ -328,14 +265,14 @@ fn writing_right(line: &[u8], from: usize) -> bool {
 // ---- the list
 
 enum Kind {
-    Reading,
+    Reading(Ways),
     Writing,
 }
 
 // Whether a line is right; its words begin at `at`.
 fn right(kind: Kind, line: &[u8], at: usize) -> bool {
     match kind {
-        Kind::Reading => reading_right(line, at),
+        Kind::Reading(ways) => reading_right(ways, line, at),
         Kind::Writing => writing_right(line, at),
     }
 }
@@ -363,29 +300,29 @@ fn count(text: &[u8], kind: Kind, name: &[u8]) -> Tally {
     t
 }
 
+// Writes the tally of one kind of line under its name.
 fn report(text: &[u8], kind: Kind, name: &[u8]) {
     lines::report(name, count(text, kind, name));
 }
 
-// Room for the whole list.
-fn list_room() -> [u8; 400000]
-    ensures { λ r. ⌜ 400000 ≡ length r ⌝ }
-{
-    [0; 400000]
+fn report_all(text: &[u8]) {
+    report(text, Kind::Reading(Ways::Whole), b"reading ");
+    lines::report(
+        b"reading fed ",
+        count(text, Kind::Reading(Ways::Cuts), b"reading "),
+    );
+    report(text, Kind::Reading(Ways::Whole), b"example ");
+    lines::report(
+        b"example fed ",
+        count(text, Kind::Reading(Ways::Cuts), b"example "),
+    );
+    report(text, Kind::Reading(Ways::Pieces), b"waiting ");
+    report(text, Kind::Writing, b"written ");
+    report(text, Kind::Writing, b"writing ");
 }
 
 fn main() {
-    let mut text = list_room();
-    let path = b"vectors.txt";
-    let file = os::open_read(path);
-    if file < 0 {
-        os::fail(path);
-        return;
-    }
-    let n = io::read_full(file, &mut text);
-    libc::close(file);
-    let list = &text[0..n];
-    report(list, Kind::Reading, b"reading ");
-    report(list, Kind::Writing, b"written ");
-    report(list, Kind::Writing, b"writing ");
+    let mut text = lines::room();
+    let n = lines::load(b"vectors.txt", &mut text);
+    report_all(&text[0..n]);
 }

@@ -14,11 +14,10 @@ use parts::Number;
 use parts::Sized;
 use rows::Cursor;
 use rows::Key;
-use rows::Span;
 use rows::Trait;
 ghost use mathlib.Core.Path.{_≡_};
 ghost use Prim.Native.Nat.{_^_, _<_};
-ghost use Rattle.rows.specs.Memory.{memory, zeroed, noKey, keyOf, colCount, colCount2, messageLimit};
+ghost use Rattle.rows.specs.Memory.{memory, noKey, colCount, colCount2, messageLimit};
 ghost use Rattle.decide.specs.Held.{doneOf, kindIn, bodyIn};
 ghost use Rattle.format.specs.Decide as d;
 ghost use Rattle.format.specs.Reading as r;
@@ -34,28 +33,6 @@ const COL_COUNT: usize = 9;
 const COL_COUNT2: usize = 10;
 
 const WRONG_LOAN: usize = 1;
-
-// ---- keys
-
-fn no_key() -> Key
-    ensures { λ x. ⌜ x ≡ noKey ⌝ }
-{
-    Key {
-        mark: 0,
-        begin: 0,
-        size: 0,
-    }
-}
-
-fn key_of(s: Span) -> Key
-    ensures { λ x. ⌜ x ≡ keyOf s ⌝ }
-{
-    Key {
-        mark: 1,
-        begin: s.begin,
-        size: s.size,
-    }
-}
 
 // ---- entries
 
@@ -88,7 +65,7 @@ fn items(
             traits,
             names,
             cur,
-            no_key(),
+            rows::no_key(),
             left,
         );
         let Done::Fine(c1) = a else {
@@ -132,7 +109,7 @@ fn couples(
             traits,
             names,
             cur,
-            no_key(),
+            rows::no_key(),
             left,
         );
         let Done::Fine(c1) = a else {
@@ -147,7 +124,7 @@ fn couples(
             traits,
             names,
             c1,
-            no_key(),
+            rows::no_key(),
             left,
         );
         let Done::Fine(c2) = b else {
@@ -248,7 +225,7 @@ fn pairs(
             traits,
             names,
             c1,
-            key_of(s),
+            rows::key_of(s),
             left,
         );
         let Done::Fine(c2) = a else {
@@ -688,25 +665,6 @@ fn value(
 
 // ---- messages
 
-// Every loan set to zero.
-fn clear(
-    rows: &mut [usize],
-    store: &mut [u8],
-    strings: &mut [usize],
-    objects: &mut [usize],
-    traits: &mut [usize],
-    names: &mut [usize],
-)
-    ensures { λ x. ⌜ (memory (now (rows .exit)) (now (store .exit)) (now (strings .exit)) (now (objects .exit)) (now (traits .exit)) (now (names .exit))) ≡ zeroed (memory (now (rows .entry)) (now (store .entry)) (now (strings .entry)) (now (objects .entry)) (now (traits .entry)) (now (names .entry))) ⌝ }
-{
-    rows::zero(rows);
-    rows::zero_bytes(store);
-    rows::zero(strings);
-    rows::zero(objects);
-    rows::zero(traits);
-    rows::zero(names);
-}
-
 // The whole message, read into loans that were lent for it: a refusal leaves them zero, but for 1, which leaves them as found.
 pub fn read(
     rows: &mut [usize],
@@ -735,7 +693,7 @@ pub fn read(
             taken: 0,
         };
     }
-    clear(rows, store, strings, objects, traits, names);
+    rows::clear(rows, store, strings, objects, traits, names);
     let fresh = Cursor {
         at: 0,
         rows: 0,
@@ -754,7 +712,7 @@ pub fn read(
         traits,
         names,
         fresh,
-        no_key(),
+        rows::no_key(),
         OPEN_LIMIT,
     );
     match a {
@@ -764,7 +722,7 @@ pub fn read(
             taken: c.at,
         },
         Done::Refused(refusal) => {
-            clear(rows, store, strings, objects, traits, names);
+            rows::clear(rows, store, strings, objects, traits, names);
             Answer::Refused {
                 no: refusal.number,
                 told: refusal.told,

@@ -1,50 +1,28 @@
 -- Columns of rows and parts of the store, by the names of the definitions.
 use mathlib.Core.Path.{_≡_, sym, _∙_}
-use mathlib.Core.List.{List, []}
-use Prim.Native.Nat.{ℕ, zero, suc, _+_, _-_, _<_, _≤_}
+use mathlib.Core.List.{List}
+use Prim.Native.Nat.{ℕ, zero, suc, _-_, _<_, _≤_}
 use native.Mathlib.Omega.{arith}
-use native.Mathlib.Nat.{add-sub-cancel-left}
-use borrow.Author.Tests.{lt-ltb, ne-eqb}
-use lib.ListN.{length, take, drop, drop-of-length-le, length-drop}
-use lib.Seq.{take-nil, take-all}
+use borrow.Author.Tests.{ne-eqb}
 use Rattle.rows.specs.declared.Key.{Key}
 use Rattle.rows.specs.declared.Span.{Span}
-use Rattle.rows.specs.Memory.{rowWidth, columnAt, keyAt, bodyAt, colKind, colKeyBegin, colKeySize, colBodyBegin, colBodySize, colClassMark, colNumber, colEnd}
-use Rattle.rows.specs.Kinds.{kindReference}
+use Rattle.rows.specs.Memory.{rowWidth, columnAt, keyAt, bodyAt, colKeyBegin, colKeySize, colBodyBegin, colBodySize, colClassMark, colEnd}
 use Rattle.format.specs.Standard.{textBytes, classBytes}
-use Rattle.format.specs.Unfold.{col, part, keyText, bodyOf, classText, home, after}
-
-pub col-is : (R : List ℕ) (i c : ℕ) → c < rowWidth → columnAt R i c ≡ col R i c
-unfolding columnAt col
-col-is R i c h = rw (lt-ltb c rowWidth h)
+use Rattle.format.specs.Unfold.{col, part, keyText, bodyOf, classText, after}
+use Rattle.format.proofs.Columns.{column-is}
 
 -- what was read of a column
 pub read : (R : List ℕ) (i c : ℕ) {n : ℕ} → c < rowWidth → n ≡ columnAt R i c → col R i c ≡ n
-read R i c h e = sym (col-is R i c h) ∙ sym e
+read R i c h e = sym (column-is R i c h) ∙ sym e
 
 -- ---- the store
 
-module _ (B : List ℕ) (begin size : ℕ) where
-  pub clip-none : length B ≤ begin → [] ≡ part B begin size
-  unfolding part
-  clip-none h = rw (drop-of-length-le B h) (sym (take-nil size))
-
-  pub clip-whole : take (begin + size - begin) (drop begin B) ≡ part B begin size
-  unfolding part
-  clip-whole = rw (add-sub-cancel-left begin size)
-
-  pub clip-rest : length B - begin < size → take (length B - begin) (drop begin B) ≡ part B begin size
-  unfolding part
-  clip-rest h =
-      let n : length (drop begin B) ≡ length B - begin = length-drop begin B in
-      rw (take-all (length B - begin) (drop begin B) (omega arith), take-all size (drop begin B) (omega arith))
-
 module _ (R B : List ℕ) (i : ℕ) where
   pub key-is : {key : Key} {s : List ℕ} → key ≡ keyAt R i → s ≡ part B (key .begin) (key .size) → s ≡ keyText R B i
-  key-is e h = h ∙ rw (e, col-is R i colKeyBegin (omega arith), col-is R i colKeySize (omega arith))
+  key-is e h = h ∙ rw (e, column-is R i colKeyBegin (omega arith), column-is R i colKeySize (omega arith))
 
   pub body-is : {body : Span} {s : List ℕ} → body ≡ bodyAt R i → s ≡ part B (body .begin) (body .size) → s ≡ bodyOf R B i
-  body-is e h = h ∙ rw (e, col-is R i colBodyBegin (omega arith), col-is R i colBodySize (omega arith))
+  body-is e h = h ∙ rw (e, column-is R i colBodyBegin (omega arith), column-is R i colBodySize (omega arith))
 
   -- the class, or none
   module _ {c : ℕ} (e : c ≡ columnAt R i colClassMark) where
@@ -55,15 +33,6 @@ module _ (R B : List ℕ) (i : ℕ) where
     class-some default s h b = rw (read R i colClassMark (omega arith) e, ne-eqb _ _ h, b)
 
 -- ---- the rows that follow
-
-module _ (R : List ℕ) (i : ℕ) {k : ℕ} (e : k ≡ columnAt R i colKind) where
-  pub home-far : {n : ℕ} → k ≡ kindReference → n ≡ columnAt R i colNumber → n ≡ home R i
-  unfolding home
-  home-far g h = rw (read R i colKind (omega arith) e, g, read R i colNumber (omega arith) h)
-
-  pub home-here : (k ≡ kindReference → ⊥) → i ≡ home R i
-  unfolding home
-  home-here g = rw (read R i colKind (omega arith) e, ne-eqb _ _ g)
 
 pub after-none : (R : List ℕ) (k m : ℕ) {x : ℕ} → after R k m ≡ x → m ≤ 0 → k ≡ x
 unfolding after

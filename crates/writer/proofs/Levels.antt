@@ -13,7 +13,7 @@ use Rattle.format.specs.Writing.{Stream, emitTrees, emitPairs, emitDynamic, emi
 use Rattle.format.proofs.Tested.{Row, tested-rows, Walk, done, next, walk-start, walk-after, home-row, kind-is}
 use Rattle.format.proofs.Levels.{unfolded-node}
 use Rattle.writer.specs.Pieces.{objectHeadAt, vectorHeadAt}
-use Rattle.writer.proofs.Columns.{col-is}
+use Rattle.format.proofs.Columns.{column-is}
 use Rattle.writer.proofs.Lists.{names-same}
 use Rattle.writer.proofs.Nodes.{array-is, object-is, vector-is, dictionary-is, object-head, vector-head}
 
@@ -56,13 +56,13 @@ module _ (R B : List ℕ) (rows : (i : ℕ) → i < rowsIn R → Row R B i) (F :
     walk c e = rw e at (walk-start R B rows p h)
 
     count : n ≡ columnAt R p colCount
-    count = sym (col-is R p colCount (omega arith))
+    count = sym (column-is R p colCount (omega arith))
 
     count2 : m ≡ columnAt R p colCount2
-    count2 = sym (col-is R p colCount2 (omega arith))
+    count2 = sym (column-is R p colCount2 (omega arith))
 
     flag : col R p colFlag ≡ columnAt R p colFlag
-    flag = sym (col-is R p colFlag (omega arith))
+    flag = sym (column-is R p colFlag (omega arith))
 
     array-same : col R p colKind ≡ kindArray → emitIn F (node f R B p) ≡ emitIn F (node g R B p)
     unfolding children

@@ -15,7 +15,7 @@ ghost use Rattle.wire.specs.U29.{u29};
 ghost use Rattle.wire.specs.Big.{bytesOf};
 ghost use Rattle.wire.specs.Sign.{ofColumn};
 ghost use Rattle.format.specs.Standard.{Tree, boolean, integer, double, date, sizeBytes, textBytes, flagByte, classBytes, encodePlain};
-ghost use Rattle.format.specs.Unfold.{part, keyText, classText, home, after, node};
+ghost use Rattle.format.specs.Unfold.{part, keyText, classText, after, node};
 ghost use Rattle.format.specs.Writing.{Stream, these, emitIn};
 ghost use Rattle.format.specs.Answers.{output, writeCall};
 ghost use Rattle.writer.specs.Run.{ran, run};
@@ -72,8 +72,6 @@ const KIND_DOUBLE_VECTOR: usize = 15;
 const KIND_OBJECT_VECTOR: usize = 16;
 
 const KIND_DICTIONARY: usize = 17;
-
-const KIND_REFERENCE: usize = 18;
 
 // ---- markers, and other single bytes
 
@@ -336,31 +334,6 @@ fn put_raw(
 
 // ---- rows
 
-// The part of the store, as far as it is there.
-fn clip(store: &[u8], begin: usize, size: usize) -> &[u8]
-    ensures { λ r. ⌜ now r ≡ part (now (store .entry)) begin size ⌝ }
-{
-    if store.len() <= begin {
-        return &store[..0];
-    }
-    let rest = store.len() - begin;
-    if size <= rest {
-        let end = begin + size;
-        return &store[begin..end];
-    }
-    &store[begin..]
-}
-
-// The row that stands for a row.
-fn home_of(rows: &[usize], i: usize) -> usize
-    ensures { λ r. ⌜ r ≡ home (now (rows .entry)) i ⌝ }
-{
-    if rows::kind_at(rows, i) == KIND_REFERENCE {
-        return rows::number_at(rows, i);
-    }
-    i
-}
-
 // The row behind `n` rows with what they hold, from row `first` on.
 fn row_after(rows: &[usize], first: usize, n: usize) -> usize
     ensures { λ r. ⌜ r ≡ after (now (rows .entry)) first n ⌝ }
@@ -385,7 +358,7 @@ fn put_plain(rows: &[usize], store: &[u8], out: &mut [u8], at: usize, j: usize, 
     let body = rows::body_at(rows, j);
     let begin = body.begin;
     let size = body.size;
-    let part = clip(store, begin, size);
+    let part = text::clip(store, begin, size);
     match kind {
         KIND_UNDEFINED => put_byte(out, at, MARKER_UNDEFINED, dry),
         KIND_BOOLEAN => put_boolean(out, at, number, dry),
@@ -411,7 +384,7 @@ fn put_key(rows: &[usize], store: &[u8], out: &mut [u8], at: usize, k: usize, dr
     let key = rows::key_at(rows, k);
     let begin = key.begin;
     let size = key.size;
-    put_text(clip(store, begin, size), out, at, dry)
+    put_text(text::clip(store, begin, size), out, at, dry)
 }
 
 // The keys of `n` rows, from row `first` on.
@@ -459,7 +432,7 @@ fn put_class(
     let body = rows::body_at(rows, j);
     let begin = body.begin;
     let size = body.size;
-    put_text(clip(store, begin, size), out, at, dry)
+    put_text(text::clip(store, begin, size), out, at, dry)
 }
 
 // The word of a new trait of `sealed` names: dynamic only if there are dynamic members.
@@ -727,7 +700,7 @@ fn write_value(
             place: at,
         };
     }
-    let j = home_of(rows, i);
+    let j = text::home_of(rows, i);
     let kind = rows::kind_at(rows, j);
     match kind {
         KIND_ARRAY => write_array(rows, store, out, at, j, left - 1, dry),

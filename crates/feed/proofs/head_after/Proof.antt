@@ -1,11 +1,12 @@
 -- Made by proofs.py from answers/head_after.txt: change that file, not this one.
--- answers b3708ffbc2e7 proof d3ed72fa71f6
+-- answers 2aa2025ed7ab proof 516d0fca512a
 use mathlib.Core.Path.{_∙_}
 use borrow.Author.Needs.{needs}
 use Rattle.feed.proofs.head_after.Statement.{statement}
 use Rattle.feed.proofs.head_after.Tie as tie
 use Rattle.feed.proofs.head_after.Reads as reads
 use Rattle.feed.proofs.head_after.Lts as lts
+use Rattle.feed.proofs.fresh.Reads as fresh-reads
 use Rattle.feed.proofs.head.Reads as head-reads
 use Rattle.format.proofs.idle.Reads as idle-reads
 
@@ -27,6 +28,9 @@ head-requires-2 c κs = search needs
 enum-known-a-3 : tie.Need-enum-known-a-3
 enum-known-a-3 c = search needs
 
+fresh-requires : tie.Need-fresh-requires
+fresh-requires c κs = search needs
+
 idle-requires-2 : tie.Need-idle-requires-2
 idle-requires-2 c κs = search needs
 
@@ -40,10 +44,10 @@ returns-2 : tie.Need-returns-2
 returns-2 c = c .head2 .ensures ∙ rw (c .before .before .before .a2 .given .1, c .before .idle .ensures)
 
 returns-3 : tie.Need-returns-3
-returns-3 c = c .head3 .ensures ∙ rw (c .before .before .before .a3 .given .1, c .before .idle2 .ensures)
+returns-3 c = c .head3 .ensures ∙ rw (c .before .before .before .before .a3 .given .1, c .before .idle2 .ensures, c .before .before .fresh .ensures)
 
 pub head-after-spec : {M : Type 1} → statement M
 head-after-spec =
     tie.close
-    (tie.spec enum-known-a head-requires enum-known-a-2 idle-requires head-requires-2 enum-known-a-3 idle-requires-2 head-requires-3 returns returns-2
-    returns-3)
+    (tie.spec enum-known-a head-requires enum-known-a-2 idle-requires head-requires-2 enum-known-a-3 fresh-requires idle-requires-2 head-requires-3
+    returns returns-2 returns-3)

@@ -1,20 +1,19 @@
 -- Made by proofs.py from answers/next.txt: change that file, not this one.
--- answers 23698ed752d9 proof ef28895081f3
+-- answers c3e726a84a15 proof ddd630fcdd89
 use mathlib.Core.Path.{refl}
 use borrow.Author.Tests.{not-true, not-false}
 use mathlib.Core.List.{[]}
 use Rattle.rows.specs.Memory.{memory}
 use Rattle.format.specs.Numbers.{lentOf}
-use Rattle.feed.proofs.Steps.{never-begun, not-sound, too-long, acted, deep-enough}
+use Rattle.feed.proofs.Steps.{never-begun, not-sound, stepped-on, deep-enough}
 use borrow.Author.Needs.{needs}
 use Rattle.feed.proofs.next.Statement.{statement}
 use Rattle.feed.proofs.next.Tie as tie
 use Rattle.feed.proofs.next.Reads as reads
 use Rattle.feed.proofs.next.Lts as lts
 use Rattle.decide.proofs.lost.Reads as lost-reads
-use Rattle.decide.proofs.refuse.Reads as refuse-reads
+use Rattle.feed.proofs.go_on.Reads as go-on-reads
 use Rattle.feed.proofs.sound.Reads as sound-reads
-use Rattle.step.proofs.act.Reads as act-reads
 
 lost-requires : tie.Need-lost-requires
 lost-requires c κs = search needs
@@ -34,31 +33,17 @@ unfolding lentOf
 returns-2 c = not-sound _ (c .before .before .before .before .before .before .before .before .before .before .before .args .h) _ _
     (c .before .before .before .if1 .left) _ (c .before .before .sound .ensures _ _ refl) _ (c .lost2 .ensures) (not-true _ (c .before .if2 .taken))
 
-refuse-requires : tie.Need-refuse-requires
-refuse-requires c κs = search needs
-
-returns-3 : tie.Need-returns-3
+go-on-requires : tie.Need-go-on-requires
 unfolding lentOf
-returns-3 c =
-    let b5 = c .before .before .before .before .before in
-    let b13 = b5 .before .before .before .before .before .before .before .before in
-    too-long _ (b13 .args .h) _ _ (b5 .if1 .left) _ (c .before .before .before .before .sound .ensures _ _ refl) _ (c .refuse .ensures) (not-false _
-    (c .before .before .before .if2 .left)) (c .before .if3 .taken)
-
-add-c : tie.Need-add-c
-add-c c = search needs
-
-act-requires : tie.Need-act-requires
-unfolding lentOf
-act-requires c κs =
-    let b11 = c .before .before .before .before .before .before .before .before .before .before .before in
-    let b12 = b11 .before in
-    let b13 = b12 .before in
-    let b21 = b13 .before .before .before .before .before .before .before .before in
-    deep-enough 0 (b21 .args .h) [] (memory (b21 .args .rows .now) (b21 .args .store .now) (b21 .args .strings .now) (b21 .args .objects .now)
-    (b21 .args .traits .now) (b21 .args .names .now)) (b13 .if1 .left) _ (b12 .sound .ensures [] (memory (b21 .args .rows .now)
-    (b21 .args .store .now) (b21 .args .strings .now) (b21 .args .objects .now) (b21 .args .traits .now) (b21 .args .names .now)) refl) (not-false _
-    (b11 .if2 .left))
+go-on-requires c κs =
+    let b7 = c .before .before .before .before .before .before .before in
+    let b8 = b7 .before in
+    let b9 = b8 .before in
+    let b17 = b9 .before .before .before .before .before .before .before .before in
+    deep-enough 0 (b17 .args .h) [] (memory (b17 .args .rows .now) (b17 .args .store .now) (b17 .args .strings .now) (b17 .args .objects .now)
+    (b17 .args .traits .now) (b17 .args .names .now)) (b9 .if1 .left) _ (b8 .sound .ensures [] (memory (b17 .args .rows .now)
+    (b17 .args .store .now) (b17 .args .strings .now) (b17 .args .objects .now) (b17 .args .traits .now) (b17 .args .names .now)) refl) (not-false _
+    (b7 .if2 .left))
 
 same-length : tie.Need-same-length
 same-length c = search needs
@@ -78,19 +63,18 @@ same-length-5 c = search needs
 same-length-6 : tie.Need-same-length-6
 same-length-6 c = search needs
 
-returns-4 : tie.Need-returns-4
+returns-3 : tie.Need-returns-3
 unfolding lentOf
-returns-4 c =
+returns-3 c =
     let b12 = c .before .before .before .before .before .before .before .before .before .before .before .before in
-    let b22 = b12 .before .before .before .before .before .before .before .before .before .before in
-    let b24 = b22 .before .before in
-    let b25 = b24 .before in
-    let b26 = b25 .before in
-    let b34 = b26 .before .before .before .before .before .before .before .before in
-    acted _ (b34 .args .h) _ _ (b26 .if1 .left) _ (b25 .sound .ensures _ _ refl) _ (not-false _ (b24 .if2 .left)) (b22 .if3 .left) (b12 .act .ensures)
+    let b20 = b12 .before .before .before .before .before .before .before .before in
+    let b21 = b20 .before in
+    let b22 = b21 .before in
+    let b30 = b22 .before .before .before .before .before .before .before .before in
+    stepped-on _ (b30 .args .h) _ _ (b22 .if1 .left) _ (b21 .sound .ensures _ _ refl) _ (not-false _ (b20 .if2 .left)) (b12 .go-on .ensures)
 
 pub next-spec : {M : Type 1} → statement M
 next-spec =
     tie.close
-    (tie.spec lost-requires returns sound-requires lost-requires-2 returns-2 refuse-requires returns-3 add-c act-requires same-length same-length-2
-    same-length-3 same-length-4 same-length-5 same-length-6 returns-4)
+    (tie.spec lost-requires returns sound-requires lost-requires-2 returns-2 go-on-requires same-length same-length-2 same-length-3 same-length-4
+    same-length-5 same-length-6 returns-3)

@@ -1,12 +1,12 @@
 -- Made by proofs.py from answers/settle.txt: change that file, not this one.
--- answers 69a76079de45 proof 74c063326be9
-use Rattle.step.specs.Held.{settled}
+-- answers 6620569b6863 proof 926dfcb95f9f
+use Rattle.resume.specs.Held.{settled}
 use borrow.Author.Needs.{needs}
 use Rattle.feed.proofs.settle.Statement.{statement}
 use Rattle.feed.proofs.settle.Tie as tie
 use Rattle.feed.proofs.settle.Reads as reads
 use Rattle.feed.proofs.settle.Lts as lts
-use Rattle.feed.proofs.clear.Reads as clear-reads
+use Rattle.rows.proofs.clear.Reads as clear-reads
 
 enum-known-a : tie.Need-enum-known-a
 enum-known-a c = search needs

@@ -1,5 +1,5 @@
 -- Made by proofs.py from answers/body_writable.txt: change that file, not this one.
--- answers 2944fcf4cc9f proof f0c7fcb803a5
+-- answers c3a5fdb45e31 proof 8bab028817f0
 use mathlib.Core.Path.{sym, _∙_}
 use borrow.Author.Tests.{eq-eqb, ne-eqb, not-true, not-false}
 use Rattle.format.specs.RowTest.{bodyWritable}
@@ -10,10 +10,10 @@ use Rattle.judge.proofs.body_writable.Reads as reads
 use Rattle.judge.proofs.body_writable.Lts as lts
 use Rattle.judge.proofs.cell.Reads as cell-reads
 use Rattle.judge.proofs.has_class.Reads as has-class-reads
-use Rattle.judge.proofs.has_text.Reads as has-text-reads
+use Rattle.text.proofs.has_text.Reads as has-text-reads
 use Rattle.judge.proofs.is_star.Reads as is-star-reads
 use Rattle.judge.proofs.is_text.Reads as is-text-reads
-use Rattle.judge.proofs.part.Reads as part-reads
+use Rattle.text.proofs.clip.Reads as clip-reads
 
 cell-requires : tie.Need-cell-requires
 cell-requires c κs = search needs
@@ -117,8 +117,8 @@ returns-5 c =
       eq-eqb _ _ (c .if5 .taken),
     ))
 
-part-requires : tie.Need-part-requires
-part-requires c κs = search needs
+clip-requires : tie.Need-clip-requires
+clip-requires c κs = search needs
 
 is-star-requires : tie.Need-is-star-requires
 is-star-requires c κs = search needs
@@ -145,7 +145,7 @@ returns-6 c =
       sym (c .before .before .before .before .is-text2 .ensures) ∙
           not-false _ (c .before .before .before .if4 .left),
       ne-eqb _ _ (c .before .before .if5 .left),
-      sym (c .before .part .ensures),
+      sym (c .before .clip .ensures),
       sym
           (c .is-star .ensures),
     ))
@@ -154,4 +154,4 @@ pub body-writable-spec : {M : Type 1} → statement M
 body-writable-spec =
     tie.close
     (tie.spec cell-requires cell-requires-2 has-text-requires is-text-requires returns has-class-requires returns-2 cell-requires-3 returns-3
-    is-text-requires-2 returns-4 returns-5 part-requires is-star-requires returns-6)
+    is-text-requires-2 returns-4 returns-5 clip-requires is-star-requires returns-6)

@@ -1,8 +1,8 @@
 -- Made by proofs.py from answers/cell.txt: change that file, not this one.
--- answers fde798c6a389 proof 3af00325a72b
+-- answers 9f259ecae4ab proof fc72cf0565f9
 use mathlib.Core.Path.{_∙_}
 use denote.Ref.{now}
-use Rattle.judge.proofs.Columns.{column-is}
+use Rattle.format.proofs.Columns.{column-is}
 use borrow.Author.Needs.{needs}
 use Rattle.judge.proofs.cell.Statement.{statement}
 use Rattle.judge.proofs.cell.Tie as tie

@@ -1,5 +1,5 @@
 -- Made by proofs.py from answers/has_body.txt: change that file, not this one.
--- answers 08eb2e3982d3 proof 36ff43222f38
+-- answers 08eb2e3982d3 proof a79df2d58cb5
 use mathlib.Core.Path.{sym, _∙_}
 use borrow.Author.Tests.{eq-eqb, ne-eqb}
 use borrow.Author.Needs.{needs}
@@ -7,7 +7,7 @@ use Rattle.judge.proofs.has_body.Statement.{statement}
 use Rattle.judge.proofs.has_body.Tie as tie
 use Rattle.judge.proofs.has_body.Reads as reads
 use Rattle.judge.proofs.has_body.Lts as lts
-use Rattle.judge.proofs.has_text.Reads as has-text-reads
+use Rattle.text.proofs.has_text.Reads as has-text-reads
 use Rattle.judge.proofs.is_raw.Reads as is-raw-reads
 
 has-text-requires : tie.Need-has-text-requires

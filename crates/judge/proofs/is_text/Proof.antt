@@ -1,5 +1,5 @@
 -- Made by proofs.py from answers/is_text.txt: change that file, not this one.
--- answers eff90cf2db89 proof 79fff6a5f7eb
+-- answers 45c777bfd095 proof fd813954349f
 use mathlib.Core.Path.{sym}
 use Rattle.judge.proofs.Texts.{same-text}
 use borrow.Author.Needs.{needs}
@@ -7,22 +7,22 @@ use Rattle.judge.proofs.is_text.Statement.{statement}
 use Rattle.judge.proofs.is_text.Tie as tie
 use Rattle.judge.proofs.is_text.Reads as reads
 use Rattle.judge.proofs.is_text.Lts as lts
-use Rattle.judge.proofs.part.Reads as part-reads
+use Rattle.text.proofs.clip.Reads as clip-reads
 use Rattle.utf8.proofs.valid.Reads as valid-reads
 
 returns : tie.Need-returns
 returns c = same-text _ _ _ _ _ (c .before .before .if1 .taken) (c .if2 .taken) (c .before .before .before .before .before .pre)
 
-part-requires : tie.Need-part-requires
-part-requires c κs = search needs
+clip-requires : tie.Need-clip-requires
+clip-requires c κs = search needs
 
 valid-requires : tie.Need-valid-requires
 valid-requires c κs = search needs
 
 returns-2 : tie.Need-returns-2
-returns-2 c = sym (simp (sym (c .before .part .ensures), sym (c .valid .ensures)))
+returns-2 c = sym (simp (sym (c .before .clip .ensures), sym (c .valid .ensures)))
 
 pub is-text-spec : {M : Type 1} → statement M
 is-text-spec =
     tie.close
-    (tie.spec returns part-requires valid-requires returns-2)
+    (tie.spec returns clip-requires valid-requires returns-2)

@@ -1,5 +1,5 @@
 -- Made by proofs.py from answers/last_body.txt: change that file, not this one.
--- answers a9248d8835d7 proof c343a05ed3e5
+-- answers a9248d8835d7 proof b0a8dc909c87
 use mathlib.Core.Path.{sym, _∙_}
 use borrow.Author.Tests.{eq-eqb, ne-eqb}
 use Rattle.judge.specs.Pass.{lastBody}
@@ -10,7 +10,7 @@ use Rattle.judge.proofs.last_body.Reads as reads
 use Rattle.judge.proofs.last_body.Lts as lts
 use Rattle.judge.proofs.cell.Reads as cell-reads
 use Rattle.judge.proofs.has_class.Reads as has-class-reads
-use Rattle.judge.proofs.has_text.Reads as has-text-reads
+use Rattle.text.proofs.has_text.Reads as has-text-reads
 
 cell-requires : tie.Need-cell-requires
 cell-requires c κs = search needs

@@ -1,24 +1,29 @@
 -- Made by proofs.py from answers/same.txt: change that file, not this one.
--- answers 42d1072555cd proof 01885c5a645f
+-- answers 613a1114b1b4 proof a938c584977c
 use borrow.Author.Needs.{needs}
-use Prim.Native.Nat.{_-_}
-use lib.ListN.{length}
+use native.Mathlib.Omega.{arith}
+use mathlib.Core.Path.{_≡_, refl, sym, _∙_}
+use Prim.Native.Nat.{_-_, _≤_}
+use denote.Ref.{now}
+use lib.ListN.{length, drop}
+use Rattle.lines.specs.Lines.{equal}
+use Rattle.lines.proofs.Equal.{other-length, equal-end, equal-more, equal-other}
 use Rattle.lines.proofs.same.Statement.{statement}
 use Rattle.lines.proofs.same.Tie as tie
 use Rattle.lines.proofs.same.Reads as reads
 use Rattle.lines.proofs.same.Lts as lts
 
 abbrev Inv-loop : tie.InvT-loop
-Inv-loop a b i₀ i = Unit {0}
+Inv-loop a b i₀ i = (i ≤ length a) × (equal a b ≡ equal (drop i a) (drop i b))
 
 abbrev μ-loop : tie.MeasureT-loop
 μ-loop a b i₀ i = length a - i
 
 returns : tie.Need-returns Inv-loop μ-loop
-returns c = search needs
+returns c = sym (other-length _ _ (c .if1 .taken))
 
 loop-holds : tie.Need-loop-holds Inv-loop μ-loop
-loop-holds c = search needs
+loop-holds c = (search needs, refl)
 
 shared-slice-read-if2 : tie.Need-shared-slice-read-if2 Inv-loop μ-loop
 shared-slice-read-if2 c = search needs
@@ -27,7 +32,9 @@ shared-slice-read-if2-2 : tie.Need-shared-slice-read-if2-2 Inv-loop μ-loop
 shared-slice-read-if2-2 c = search needs
 
 returns-2 : tie.Need-returns-2 Inv-loop μ-loop
-returns-2 c = search needs
+returns-2 c = sym (c .before .before .before .before .loop .inv .1 ∙ equal-other (now (c .before .before .before .before .before .before .args .a))
+    (now (c .before .before .before .before .before .before .args .b)) (c .before .before .before .before .loop .i)
+    (c .before .before .before .loop-test .taken) (omega arith) (c .if2 .taken))
 
 add-i : tie.Need-add-i Inv-loop μ-loop
 add-i c = search needs
@@ -36,10 +43,16 @@ loop-less : tie.Need-loop-less Inv-loop μ-loop
 loop-less c = search needs
 
 loop-again : tie.Need-loop-again Inv-loop μ-loop
-loop-again c = search needs
+loop-again c = (
+  omega arith,
+  c .before .before .before .before .loop .inv .1 ∙ equal-more (now
+      (c .before .before .before .before .before .before .args .a)) (now (c .before .before .before .before .before .before .args .b))
+      (c .before .before .before .before .loop .i) (c .before .before .before .loop-test .taken) (omega arith) (c .if2 .left),
+)
 
 returns-3 : tie.Need-returns-3 Inv-loop μ-loop
-returns-3 c = search needs
+returns-3 c = sym (c .before .loop .inv .1 ∙ equal-end (now (c .before .before .before .args .a)) (now (c .before .before .before .args .b))
+    (c .before .loop .i) (omega arith) (omega arith))
 
 pub same-spec : {M : Type 1} → statement M
 same-spec =

@@ -1,5 +1,5 @@
 -- Made by proofs.py from answers/pb_read.txt: change that file, not this one.
--- answers d56ab6440867 proof 956311978a2b
+-- answers d56ab6440867 proof eb484825913a
 use Rattle.pinebuckle.proofs.Codes.{read-coded}
 use borrow.Author.Needs.{needs}
 use Rattle.pinebuckle.proofs.pb_read.Statement.{statement}
@@ -7,7 +7,7 @@ use Rattle.pinebuckle.proofs.pb_read.Tie as tie
 use Rattle.pinebuckle.proofs.pb_read.Reads as reads
 use Rattle.pinebuckle.proofs.pb_read.Lts as lts
 use Rattle.pinebuckle.proofs.code_of.Reads as code-of-reads
-use Rattle.whole.proofs.read.Reads as read-reads
+use Rattle.pinebuckle.proofs.read.Reads as read-reads
 
 read-requires : tie.Need-read-requires
 read-requires c κs = search needs

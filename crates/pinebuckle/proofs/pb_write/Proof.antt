@@ -1,5 +1,5 @@
 -- Made by proofs.py from answers/pb_write.txt: change that file, not this one.
--- answers 16eda92a80bb proof 406d7e96f41f
+-- answers 16eda92a80bb proof 9a4801e45193
 use Rattle.pinebuckle.proofs.Codes.{write-coded}
 use borrow.Author.Needs.{needs}
 use Rattle.pinebuckle.proofs.pb_write.Statement.{statement}
@@ -8,7 +8,7 @@ use Rattle.pinebuckle.proofs.pb_write.Reads as reads
 use Rattle.pinebuckle.proofs.pb_write.Lts as lts
 use Rattle.pinebuckle.proofs.finished.Reads as finished-reads
 use Rattle.pinebuckle.proofs.refused.Reads as refused-reads
-use Rattle.writer.proofs.write.Reads as write-reads
+use Rattle.pinebuckle.proofs.write.Reads as write-reads
 
 write-requires : tie.Need-write-requires
 write-requires c κs = search needs

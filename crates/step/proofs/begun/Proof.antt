@@ -1,10 +1,10 @@
 -- Made by proofs.py from answers/begun.txt: change that file, not this one.
--- answers e7a7e97b5391 proof 9fc7ae1a1bdd
+-- answers f98cdf2812bd proof 20e76c23b690
 use mathlib.Core.Path.{sym, ap, _∙_}
 use Rattle.decide.specs.Held.{kindIn, bodyNo}
 use Rattle.format.specs.Step.{begun}
 use Rattle.format.specs.Numbers.{useWork, workOf}
-use Rattle.step.proofs.Settled.{waits}
+use Rattle.resume.proofs.Settled.{waits}
 use borrow.Author.Needs.{needs}
 use Rattle.step.proofs.begun.Statement.{statement}
 use Rattle.step.proofs.begun.Tie as tie
@@ -12,12 +12,12 @@ use Rattle.step.proofs.begun.Reads as reads
 use Rattle.step.proofs.begun.Lts as lts
 use Rattle.decide.proofs.body_of.Reads as body-of-reads
 use Rattle.decide.proofs.kind_of.Reads as kind-of-reads
-use Rattle.step.proofs.no_span.Reads as no-span-reads
-use Rattle.step.proofs.no_trait.Reads as no-trait-reads
-use Rattle.step.proofs.pop.Reads as pop-reads
+use Rattle.resume.proofs.no_span.Reads as no-span-reads
+use Rattle.resume.proofs.no_trait.Reads as no-trait-reads
+use Rattle.resume.proofs.pop.Reads as pop-reads
 use Rattle.step.proofs.purpose_of.Reads as purpose-of-reads
-use Rattle.step.proofs.row_work.Reads as row-work-reads
-use Rattle.step.proofs.string_work.Reads as string-work-reads
+use Rattle.resume.proofs.row_work.Reads as row-work-reads
+use Rattle.resume.proofs.string_work.Reads as string-work-reads
 
 kind-of-requires : tie.Need-kind-of-requires
 kind-of-requires c κs = search needs

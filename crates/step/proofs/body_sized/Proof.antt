@@ -1,11 +1,11 @@
 -- Made by proofs.py from answers/body_sized.txt: change that file, not this one.
--- answers 3af080cf22e9 proof 4b9846c935c7
+-- answers 631c8176e33c proof 6287be7f77e6
 use mathlib.Core.Path.{refl, sym, ap, _∙_}
 use Rattle.decide.specs.Held.{doneOf}
 use Rattle.format.specs.Step.{bodySized}
-use Rattle.step.specs.Held.{afterOf}
-use Rattle.step.proofs.Decided.{gave-entered, stop-entered}
-use Rattle.step.proofs.Refusals.{refuses}
+use Rattle.resume.specs.Held.{afterOf}
+use Rattle.resume.proofs.Decided.{gave-entered, stop-entered}
+use Rattle.resume.proofs.Refusals.{refuses}
 use Rattle.step.proofs.Shapes.{size-small}
 use borrow.Author.Needs.{needs}
 use Rattle.step.proofs.body_sized.Statement.{statement}

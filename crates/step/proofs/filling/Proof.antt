@@ -1,14 +1,14 @@
 -- Made by proofs.py from answers/filling.txt: change that file, not this one.
--- answers 3152aca4ccd4 proof cbb6ee5a460f
-use Rattle.step.proofs.Settled.{same}
-use Rattle.step.proofs.Amounts.{no-bytes, more-bytes}
+-- answers 98621b0f4a95 proof e5a808db3b84
+use Rattle.resume.proofs.Settled.{same}
+use Rattle.resume.proofs.Amounts.{no-bytes, more-bytes}
 use borrow.Author.Needs.{needs}
 use Rattle.step.proofs.filling.Statement.{statement}
 use Rattle.step.proofs.filling.Tie as tie
 use Rattle.step.proofs.filling.Reads as reads
 use Rattle.step.proofs.filling.Lts as lts
-use Rattle.step.proofs.close.Reads as close-reads
-use Rattle.step.proofs.row_work.Reads as row-work-reads
+use Rattle.resume.proofs.close.Reads as close-reads
+use Rattle.resume.proofs.row_work.Reads as row-work-reads
 
 close-requires : tie.Need-close-requires
 close-requires c κs = search needs

@@ -1,15 +1,15 @@
 -- Made by proofs.py from answers/flag_done.txt: change that file, not this one.
--- answers ddc208583016 proof 6273993bb012
+-- answers 9b1741388f82 proof 7514fbead5a6
 use mathlib.Core.Path.{refl, sym, ap, _∙_}
 use borrow.Author.Tests.{eq-eqb, ne-eqb}
 use mathlib.Core.Logic.{⊎-elim}
 use Rattle.decide.specs.Held.{doneOf}
 use Rattle.format.specs.Step.{taskOf}
 use Rattle.format.specs.Numbers.{useWork, workOf}
-use Rattle.step.specs.Held.{afterOf}
-use Rattle.step.proofs.Decided.{gave-flagged, stop-flagged}
-use Rattle.step.proofs.Refusals.{refuses}
-use Rattle.step.proofs.Settled.{waits}
+use Rattle.resume.specs.Held.{afterOf}
+use Rattle.resume.proofs.Decided.{gave-flagged, stop-flagged}
+use Rattle.resume.proofs.Refusals.{refuses}
+use Rattle.resume.proofs.Settled.{waits}
 use Rattle.step.proofs.Flags.{raw-flag, flag-kept, after-dictionary, after-objects, after-raw}
 use borrow.Author.Needs.{needs}
 use Rattle.step.proofs.flag_done.Statement.{statement}
@@ -21,10 +21,10 @@ use Rattle.decide.proofs.flagged.Reads as flagged-reads
 use Rattle.decide.proofs.not_done.Reads as not-done-reads
 use Rattle.decide.proofs.weak.Reads as weak-reads
 use Rattle.step.proofs.filling.Reads as filling-reads
-use Rattle.step.proofs.frame.Reads as frame-reads
-use Rattle.step.proofs.no_trait.Reads as no-trait-reads
-use Rattle.step.proofs.onward.Reads as onward-reads
-use Rattle.step.proofs.string_work.Reads as string-work-reads
+use Rattle.resume.proofs.frame.Reads as frame-reads
+use Rattle.resume.proofs.no_trait.Reads as no-trait-reads
+use Rattle.resume.proofs.onward.Reads as onward-reads
+use Rattle.resume.proofs.string_work.Reads as string-work-reads
 
 fixed-requires : tie.Need-fixed-requires
 fixed-requires c κs = search needs

@@ -1,14 +1,14 @@
 -- Made by proofs.py from answers/flag_work.txt: change that file, not this one.
--- answers 7bc8c3d3419c proof 30769d71b722
+-- answers 7bc8c3d3419c proof c6cbaff5d7cc
 use mathlib.Core.Path.{sym}
 use borrow.Author.Needs.{needs}
 use Rattle.step.proofs.flag_work.Statement.{statement}
 use Rattle.step.proofs.flag_work.Tie as tie
 use Rattle.step.proofs.flag_work.Reads as reads
 use Rattle.step.proofs.flag_work.Lts as lts
-use Rattle.step.proofs.no_span.Reads as no-span-reads
-use Rattle.step.proofs.no_trait.Reads as no-trait-reads
-use Rattle.step.proofs.whole_work.Reads as whole-work-reads
+use Rattle.resume.proofs.no_span.Reads as no-span-reads
+use Rattle.resume.proofs.no_trait.Reads as no-trait-reads
+use Rattle.resume.proofs.whole_work.Reads as whole-work-reads
 
 no-span-requires : tie.Need-no-span-requires
 no-span-requires c κs = search needs

@@ -1,9 +1,9 @@
 -- Made by proofs.py from answers/integer_done.txt: change that file, not this one.
--- answers 148663453323 proof 7b0d5f0d85fb
+-- answers 5a0dc705e9f1 proof 3f5524a6e359
 use mathlib.Core.Path.{ap}
 use Rattle.decide.specs.Held.{doneOf}
-use Rattle.step.proofs.Decided.{gave-integer, stop-integer}
-use Rattle.step.proofs.Settled.{refuses-rows, same}
+use Rattle.resume.proofs.Decided.{gave-integer, stop-integer}
+use Rattle.resume.proofs.Settled.{refuses-rows, same}
 use borrow.Author.Needs.{needs}
 use Rattle.step.proofs.integer_done.Statement.{statement}
 use Rattle.step.proofs.integer_done.Tie as tie
@@ -11,7 +11,7 @@ use Rattle.step.proofs.integer_done.Reads as reads
 use Rattle.step.proofs.integer_done.Lts as lts
 use Rattle.decide.proofs.integer_end.Reads as integer-end-reads
 use Rattle.decide.proofs.not_done.Reads as not-done-reads
-use Rattle.step.proofs.pop.Reads as pop-reads
+use Rattle.resume.proofs.pop.Reads as pop-reads
 
 integer-end-requires : tie.Need-integer-end-requires
 integer-end-requires c κs = search needs

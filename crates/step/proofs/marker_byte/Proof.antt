@@ -1,14 +1,14 @@
 -- Made by proofs.py from answers/marker_byte.txt: change that file, not this one.
--- answers dbc1421ccf11 proof 9dba3120c0bd
+-- answers ac6306c3196b proof f0ba70272bbb
 use native.Mathlib.Omega.{arith}
 use mathlib.Core.Path.{refl, sym, ap, _∙_}
 use Rattle.rows.specs.Memory.{openLimit}
 use Rattle.decide.specs.Held.{begunOf}
 use Rattle.format.specs.Step.{act}
-use Rattle.step.specs.Held.{afterOf}
-use Rattle.step.proofs.Decided.{gave-marker, stop-marker}
-use Rattle.step.proofs.Refusals.{refuses}
-use Rattle.step.proofs.Frames.{length-frames}
+use Rattle.resume.specs.Held.{afterOf}
+use Rattle.resume.proofs.Decided.{gave-marker, stop-marker}
+use Rattle.resume.proofs.Refusals.{refuses}
+use Rattle.resume.proofs.Frames.{length-frames}
 use Rattle.step.proofs.Markers.{marker-open}
 use borrow.Author.Needs.{needs}
 use Rattle.step.proofs.marker_byte.Statement.{statement}

@@ -1,12 +1,12 @@
 -- Made by proofs.py from answers/number_byte.txt: change that file, not this one.
--- answers 79273aaba1bc proof ccef61894bfa
+-- answers dee7dec4ec57 proof 400a62b869f4
 use native.Mathlib.Omega.{arith}
 use mathlib.Core.Path.{refl, sym, _∙_}
 use Rattle.wire.proofs.Big.{digit-within}
 use Rattle.format.specs.Step.{act}
-use Rattle.step.proofs.Purposes.{number-work}
-use Rattle.step.proofs.Refusals.{refuses}
-use Rattle.step.proofs.Settled.{waits}
+use Rattle.resume.proofs.Purposes.{number-work}
+use Rattle.resume.proofs.Refusals.{refuses}
+use Rattle.resume.proofs.Settled.{waits}
 use Rattle.step.proofs.Parts.{number-astray, number-waits}
 use borrow.Author.Needs.{needs}
 use Rattle.step.proofs.number_byte.Statement.{statement}
@@ -14,9 +14,9 @@ use Rattle.step.proofs.number_byte.Tie as tie
 use Rattle.step.proofs.number_byte.Reads as reads
 use Rattle.step.proofs.number_byte.Lts as lts
 use Rattle.decide.proofs.lost.Reads as lost-reads
-use Rattle.step.proofs.no_span.Reads as no-span-reads
+use Rattle.resume.proofs.no_span.Reads as no-span-reads
 use Rattle.step.proofs.number_done.Reads as number-done-reads
-use Rattle.step.proofs.row_work.Reads as row-work-reads
+use Rattle.resume.proofs.row_work.Reads as row-work-reads
 use Rattle.wire.proofs.be64_byte.Reads as be64-byte-reads
 
 be64-byte-requires : tie.Need-be64-byte-requires

@@ -1,10 +1,10 @@
 -- Made by proofs.py from answers/number_done.txt: change that file, not this one.
--- answers b5047bd1caf5 proof 2c9ef563f4c8
+-- answers f9da06e1cecf proof 9408f1837209
 use mathlib.Core.Path.{ap, _∙_}
 use Rattle.decide.specs.Held.{doneOf}
-use Rattle.step.proofs.Decided.{gave-numbered, stop-numbered, gave-date, stop-date}
-use Rattle.step.proofs.Settled.{refuses-rows, same}
-use Rattle.step.proofs.Amounts.{double-done, date-done}
+use Rattle.resume.proofs.Decided.{gave-numbered, stop-numbered, gave-date, stop-date}
+use Rattle.resume.proofs.Settled.{refuses-rows, same}
+use Rattle.resume.proofs.Amounts.{double-done, date-done}
 use borrow.Author.Needs.{needs}
 use Rattle.step.proofs.number_done.Statement.{statement}
 use Rattle.step.proofs.number_done.Tie as tie
@@ -13,7 +13,7 @@ use Rattle.step.proofs.number_done.Lts as lts
 use Rattle.decide.proofs.date_end.Reads as date-end-reads
 use Rattle.decide.proofs.not_done.Reads as not-done-reads
 use Rattle.decide.proofs.numbered.Reads as numbered-reads
-use Rattle.step.proofs.pop.Reads as pop-reads
+use Rattle.resume.proofs.pop.Reads as pop-reads
 
 numbered-requires : tie.Need-numbered-requires
 numbered-requires c κs = search needs

@@ -1,10 +1,10 @@
 -- Made by proofs.py from answers/object_known.txt: change that file, not this one.
--- answers c1b095cbac64 proof e1bc86d6dfe5
+-- answers e1c7be198e5d proof 1e4b1b243ac6
 use mathlib.Core.Path.{refl, sym, ap, _∙_}
 use Rattle.decide.specs.Held.{doneOf, traitedOf}
-use Rattle.step.specs.Held.{afterOf}
-use Rattle.step.proofs.Decided.{gave-old-trait, stop-old-trait, gave-object, stop-object}
-use Rattle.step.proofs.Refusals.{refuses}
+use Rattle.resume.specs.Held.{afterOf}
+use Rattle.resume.proofs.Decided.{gave-old-trait, stop-old-trait, gave-object, stop-object}
+use Rattle.resume.proofs.Refusals.{refuses}
 use borrow.Author.Needs.{needs}
 use Rattle.step.proofs.object_known.Statement.{statement}
 use Rattle.step.proofs.object_known.Tie as tie
@@ -14,7 +14,7 @@ use Rattle.decide.proofs.no_trait.Reads as no-trait-reads
 use Rattle.decide.proofs.not_done.Reads as not-done-reads
 use Rattle.decide.proofs.object_class.Reads as object-class-reads
 use Rattle.decide.proofs.old_trait.Reads as old-trait-reads
-use Rattle.step.proofs.members_of.Reads as members-of-reads
+use Rattle.resume.proofs.members_of.Reads as members-of-reads
 
 old-trait-requires : tie.Need-old-trait-requires
 old-trait-requires c κs = search needs

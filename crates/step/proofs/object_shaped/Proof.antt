@@ -1,13 +1,13 @@
 -- Made by proofs.py from answers/object_shaped.txt: change that file, not this one.
--- answers 978c63ed0958 proof 5f322adf2985
+-- answers 5ea74c698d08 proof 3de44fe89ed4
 use mathlib.Core.Path.{refl, sym, ap, _∙_}
 use Rattle.decide.specs.Held.{doneOf}
 use Rattle.format.specs.Step.{objectShaped}
 use Rattle.format.specs.Numbers.{useWork, workOf}
-use Rattle.step.specs.Held.{afterOf}
-use Rattle.step.proofs.Decided.{gave-entered, stop-entered}
-use Rattle.step.proofs.Refusals.{refuses}
-use Rattle.step.proofs.Settled.{waits}
+use Rattle.resume.specs.Held.{afterOf}
+use Rattle.resume.proofs.Decided.{gave-entered, stop-entered}
+use Rattle.resume.proofs.Refusals.{refuses}
+use Rattle.resume.proofs.Settled.{waits}
 use Rattle.step.proofs.Shapes.{shape-entered, never-entered}
 use borrow.Author.Needs.{needs}
 use Rattle.step.proofs.object_shaped.Statement.{statement}
@@ -17,11 +17,11 @@ use Rattle.step.proofs.object_shaped.Lts as lts
 use Rattle.decide.proofs.entered.Reads as entered-reads
 use Rattle.decide.proofs.lost.Reads as lost-reads
 use Rattle.decide.proofs.not_done.Reads as not-done-reads
-use Rattle.step.proofs.dynamic_trait.Reads as dynamic-trait-reads
-use Rattle.step.proofs.no_trait.Reads as no-trait-reads
+use Rattle.resume.proofs.dynamic_trait.Reads as dynamic-trait-reads
+use Rattle.resume.proofs.no_trait.Reads as no-trait-reads
 use Rattle.step.proofs.object_known.Reads as object-known-reads
 use Rattle.step.proofs.refer.Reads as refer-reads
-use Rattle.step.proofs.string_work.Reads as string-work-reads
+use Rattle.resume.proofs.string_work.Reads as string-work-reads
 use Rattle.wire.proofs.shape_of.Reads as shape-of-reads
 
 shape-of-requires : tie.Need-shape-of-requires

@@ -1,21 +1,21 @@
 -- Made by proofs.py from answers/open_body.txt: change that file, not this one.
--- answers 65154c2f1572 proof 84ed81a21686
+-- answers a3968d4904ef proof 6e4c77359d18
 use mathlib.Core.Path.{_∙_}
 use Rattle.format.specs.Step.{opened}
 use Rattle.format.specs.Numbers.{workOf}
-use Rattle.step.proofs.Settled.{waits}
+use Rattle.resume.proofs.Settled.{waits}
 use borrow.Author.Needs.{needs}
 use Rattle.step.proofs.open_body.Statement.{statement}
 use Rattle.step.proofs.open_body.Tie as tie
 use Rattle.step.proofs.open_body.Reads as reads
 use Rattle.step.proofs.open_body.Lts as lts
 use Rattle.step.proofs.flag_work.Reads as flag-work-reads
-use Rattle.step.proofs.next_key.Reads as next-key-reads
-use Rattle.step.proofs.no_span.Reads as no-span-reads
+use Rattle.resume.proofs.next_key.Reads as next-key-reads
+use Rattle.resume.proofs.no_span.Reads as no-span-reads
 use Rattle.step.proofs.open_bytes.Reads as open-bytes-reads
 use Rattle.step.proofs.open_raw.Reads as open-raw-reads
 use Rattle.step.proofs.open_xml.Reads as open-xml-reads
-use Rattle.step.proofs.row_work.Reads as row-work-reads
+use Rattle.resume.proofs.row_work.Reads as row-work-reads
 
 enum-told : tie.Need-enum-told
 enum-told c = search needs

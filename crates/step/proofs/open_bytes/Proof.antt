@@ -1,8 +1,8 @@
 -- Made by proofs.py from answers/open_bytes.txt: change that file, not this one.
--- answers ba142c0902bb proof 5b975a92134d
+-- answers 431c2d476cf8 proof fc1d802d1713
 use mathlib.Core.Path.{refl}
 use Rattle.format.specs.Step.{opened}
-use Rattle.step.proofs.Refusals.{refuses}
+use Rattle.resume.proofs.Refusals.{refuses}
 use Rattle.step.proofs.Rooms.{roomed, unroomed}
 use borrow.Author.Needs.{needs}
 use Rattle.step.proofs.open_bytes.Statement.{statement}

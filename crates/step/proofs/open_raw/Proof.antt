@@ -1,11 +1,11 @@
 -- Made by proofs.py from answers/open_raw.txt: change that file, not this one.
--- answers 39b93f20b280 proof b268c74ebc18
+-- answers 514ef291ab19 proof 7abe52178846
 use native.Mathlib.Omega.{arith}
 use mathlib.Core.Path.{refl}
 use Rattle.format.specs.Step.{opened}
 use Rattle.format.specs.Numbers.{workOf}
-use Rattle.step.proofs.Refusals.{refuses}
-use Rattle.step.proofs.Settled.{waits}
+use Rattle.resume.proofs.Refusals.{refuses}
+use Rattle.resume.proofs.Settled.{waits}
 use Rattle.step.proofs.Rooms.{roomed, unroomed, width-small}
 use borrow.Author.Needs.{needs}
 use Rattle.step.proofs.open_raw.Statement.{statement}
@@ -16,7 +16,7 @@ use Rattle.decide.proofs.no_text.Reads as no-text-reads
 use Rattle.decide.proofs.width_of.Reads as width-of-reads
 use Rattle.step.proofs.raw_purpose.Reads as raw-purpose-reads
 use Rattle.step.proofs.roomy.Reads as roomy-reads
-use Rattle.step.proofs.row_work.Reads as row-work-reads
+use Rattle.resume.proofs.row_work.Reads as row-work-reads
 
 width-of-requires : tie.Need-width-of-requires
 width-of-requires c κs = search needs

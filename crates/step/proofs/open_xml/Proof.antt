@@ -1,8 +1,8 @@
 -- Made by proofs.py from answers/open_xml.txt: change that file, not this one.
--- answers 4c22485a3cef proof cd168dd4c638
+-- answers 31e40103222e proof 54503eff1bc0
 use mathlib.Core.Path.{refl}
 use Rattle.format.specs.Step.{opened}
-use Rattle.step.proofs.Refusals.{refuses}
+use Rattle.resume.proofs.Refusals.{refuses}
 use Rattle.step.proofs.Rooms.{roomed, unroomed}
 use borrow.Author.Needs.{needs}
 use Rattle.step.proofs.open_xml.Statement.{statement}

@@ -1,10 +1,10 @@
 -- Made by proofs.py from answers/raw_byte.txt: change that file, not this one.
--- answers b868d8d30448 proof 8315f9d387f0
+-- answers 98dd8138627e proof a42516b44526
 use mathlib.Core.Path.{refl, sym, ap, _∙_}
 use Rattle.decide.specs.Held.{doneOf}
-use Rattle.step.specs.Held.{afterOf}
-use Rattle.step.proofs.Decided.{gave-stored, stop-stored}
-use Rattle.step.proofs.Refusals.{refuses}
+use Rattle.resume.specs.Held.{afterOf}
+use Rattle.resume.proofs.Decided.{gave-stored, stop-stored}
+use Rattle.resume.proofs.Refusals.{refuses}
 use Rattle.step.proofs.Raws.{raw-stored, raw-filling, gave-grown-by, stop-grown-by}
 use borrow.Author.Needs.{needs}
 use Rattle.step.proofs.raw_byte.Statement.{statement}

@@ -1,9 +1,9 @@
 -- Made by proofs.py from answers/refer.txt: change that file, not this one.
--- answers 416b9c84fddd proof d9219644fc6a
+-- answers 4a3e63254675 proof 9ab7333ff638
 use mathlib.Core.Path.{ap}
 use Rattle.decide.specs.Held.{doneOf}
-use Rattle.step.proofs.Decided.{gave-referred, stop-referred}
-use Rattle.step.proofs.Settled.{refuses-rows, same}
+use Rattle.resume.proofs.Decided.{gave-referred, stop-referred}
+use Rattle.resume.proofs.Settled.{refuses-rows, same}
 use borrow.Author.Needs.{needs}
 use Rattle.step.proofs.refer.Statement.{statement}
 use Rattle.step.proofs.refer.Tie as tie
@@ -11,7 +11,7 @@ use Rattle.step.proofs.refer.Reads as reads
 use Rattle.step.proofs.refer.Lts as lts
 use Rattle.decide.proofs.not_done.Reads as not-done-reads
 use Rattle.decide.proofs.referred.Reads as referred-reads
-use Rattle.step.proofs.pop.Reads as pop-reads
+use Rattle.resume.proofs.pop.Reads as pop-reads
 
 referred-requires : tie.Need-referred-requires
 referred-requires c κs = search needs

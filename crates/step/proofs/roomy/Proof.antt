@@ -1,10 +1,10 @@
 -- Made by proofs.py from answers/roomy.txt: change that file, not this one.
--- answers 218792344927 proof 1bbf5d8c6c41
+-- answers 03910d52e432 proof 8977280665c7
 use mathlib.Core.Path.{refl, sym, ap, _∙_}
 use Rattle.format.specs.Step.{roomy}
 use Rattle.decide.specs.Held.{doneOf, textOf}
-use Rattle.step.proofs.Decided.{gave-reserved, stop-reserved, gave-bodied, stop-bodied}
-use Rattle.step.proofs.Refusals.{refusals}
+use Rattle.resume.proofs.Decided.{gave-reserved, stop-reserved, gave-bodied, stop-bodied}
+use Rattle.resume.proofs.Refusals.{refusals}
 use Rattle.step.proofs.Rooms.{some-room, no-text-there}
 use borrow.Author.Needs.{needs}
 use Rattle.step.proofs.roomy.Statement.{statement}
@@ -14,7 +14,7 @@ use Rattle.step.proofs.roomy.Lts as lts
 use Rattle.decide.proofs.bodied.Reads as bodied-reads
 use Rattle.decide.proofs.not_done.Reads as not-done-reads
 use Rattle.decide.proofs.reserved.Reads as reserved-reads
-use Rattle.step.proofs.no_span.Reads as no-span-reads
+use Rattle.resume.proofs.no_span.Reads as no-span-reads
 
 no-span-requires : tie.Need-no-span-requires
 no-span-requires c κs = search needs

@@ -1,14 +1,14 @@
 -- Made by proofs.py from answers/string_new.txt: change that file, not this one.
--- answers 41263eff3a4f proof 1da3e7512e66
+-- answers 1ff6d53a1e97 proof 5e9736f5713f
 use native.Mathlib.Omega.{arith}
 use mathlib.Core.Path.{_≡_, refl, sym, ap, _∙_}
 use Prim.Native.Nat.{ℕ, _<_}
 use Rattle.decide.specs.Held.{doneOf, textOf}
-use Rattle.step.specs.Held.{afterOf}
-use Rattle.step.proofs.Decided.{gave-reserved, stop-reserved}
-use Rattle.step.proofs.Refusals.{refuses}
-use Rattle.step.proofs.Settled.{waits}
-use Rattle.step.proofs.Uses.{use-new, use-work-of, gave-reserved-by, stop-reserved-by}
+use Rattle.resume.specs.Held.{afterOf}
+use Rattle.resume.proofs.Decided.{gave-reserved, stop-reserved}
+use Rattle.resume.proofs.Refusals.{refuses}
+use Rattle.resume.proofs.Settled.{waits}
+use Rattle.resume.proofs.Uses.{use-new, use-work-of, gave-reserved-by, stop-reserved-by}
 use borrow.Author.Needs.{needs}
 use Rattle.step.proofs.string_new.Statement.{statement}
 use Rattle.step.proofs.string_new.Tie as tie

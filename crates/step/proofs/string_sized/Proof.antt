@@ -1,12 +1,12 @@
 -- Made by proofs.py from answers/string_sized.txt: change that file, not this one.
--- answers a7cc94d8231e proof 09e0472e51bc
+-- answers 86f73c9ee67b proof ec4444d0b478
 use mathlib.Core.Path.{refl, sym, ap, _∙_}
 use Rattle.decide.specs.Held.{textOf}
 use Rattle.format.specs.Step.{stringSized}
-use Rattle.step.specs.Held.{afterOf}
-use Rattle.step.proofs.Decided.{gave-old-text, stop-old-text}
-use Rattle.step.proofs.Refusals.{refuses}
-use Rattle.step.proofs.Uses.{use-had, use-old}
+use Rattle.resume.specs.Held.{afterOf}
+use Rattle.resume.proofs.Decided.{gave-old-text, stop-old-text}
+use Rattle.resume.proofs.Refusals.{refuses}
+use Rattle.resume.proofs.Uses.{use-had, use-old}
 use borrow.Author.Needs.{needs}
 use Rattle.step.proofs.string_sized.Statement.{statement}
 use Rattle.step.proofs.string_sized.Tie as tie
@@ -14,8 +14,8 @@ use Rattle.step.proofs.string_sized.Reads as reads
 use Rattle.step.proofs.string_sized.Lts as lts
 use Rattle.decide.proofs.no_text.Reads as no-text-reads
 use Rattle.decide.proofs.old_text.Reads as old-text-reads
-use Rattle.step.proofs.had.Reads as had-reads
-use Rattle.step.proofs.no_span.Reads as no-span-reads
+use Rattle.resume.proofs.had.Reads as had-reads
+use Rattle.resume.proofs.no_span.Reads as no-span-reads
 use Rattle.step.proofs.string_new.Reads as string-new-reads
 use Rattle.wire.proofs.size_of.Reads as size-of-reads
 

@@ -1,11 +1,11 @@
 -- Made by proofs.py from answers/text_byte.txt: change that file, not this one.
--- answers 38cfb9a86b01 proof 25ebb39efd0e
+-- answers a95c7a2427e7 proof abc72628be31
 use mathlib.Core.Path.{refl, sym, ap, _∙_}
 use Rattle.decide.specs.Held.{doneOf}
-use Rattle.step.specs.Held.{afterOf}
-use Rattle.step.proofs.Decided.{gave-stored, stop-stored}
-use Rattle.step.proofs.Refusals.{refuses}
-use Rattle.step.proofs.Settled.{waits}
+use Rattle.resume.specs.Held.{afterOf}
+use Rattle.resume.proofs.Decided.{gave-stored, stop-stored}
+use Rattle.resume.proofs.Refusals.{refuses}
+use Rattle.resume.proofs.Settled.{waits}
 use Rattle.step.proofs.Texts.{text-work-of, text-stored, text-last, text-more}
 use borrow.Author.Needs.{needs}
 use Rattle.step.proofs.text_byte.Statement.{statement}
@@ -14,7 +14,7 @@ use Rattle.step.proofs.text_byte.Reads as reads
 use Rattle.step.proofs.text_byte.Lts as lts
 use Rattle.decide.proofs.not_done.Reads as not-done-reads
 use Rattle.decide.proofs.stored.Reads as stored-reads
-use Rattle.step.proofs.text_done.Reads as text-done-reads
+use Rattle.resume.proofs.text_done.Reads as text-done-reads
 use Rattle.step.proofs.text_work.Reads as text-work-reads
 use Rattle.utf8.proofs.step.Reads as step-reads
 

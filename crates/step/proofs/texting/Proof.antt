@@ -1,15 +1,15 @@
 -- Made by proofs.py from answers/texting.txt: change that file, not this one.
--- answers 5b9400e1c849 proof 3d50884383f6
+-- answers e9d017a4bf3e proof 9b0fe49ae0d0
 use Rattle.format.specs.Numbers.{workOf}
-use Rattle.step.proofs.Settled.{waits, same}
-use Rattle.step.proofs.Amounts.{no-text, more-text}
+use Rattle.resume.proofs.Settled.{waits, same}
+use Rattle.resume.proofs.Amounts.{no-text, more-text}
 use borrow.Author.Needs.{needs}
 use Rattle.step.proofs.texting.Statement.{statement}
 use Rattle.step.proofs.texting.Tie as tie
 use Rattle.step.proofs.texting.Reads as reads
 use Rattle.step.proofs.texting.Lts as lts
-use Rattle.step.proofs.close.Reads as close-reads
-use Rattle.step.proofs.row_work.Reads as row-work-reads
+use Rattle.resume.proofs.close.Reads as close-reads
+use Rattle.resume.proofs.row_work.Reads as row-work-reads
 
 close-requires : tie.Need-close-requires
 close-requires c κs = search needs

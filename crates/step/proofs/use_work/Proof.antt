@@ -1,15 +1,15 @@
 -- Made by proofs.py from answers/use_work.txt: change that file, not this one.
--- answers f18557519e4f proof 68f51f17df4a
+-- answers 9e6eb68c59c4 proof 442a46de1437
 use Rattle.format.specs.Numbers.{useWork}
-use Rattle.step.proofs.Purposes.{last-use}
+use Rattle.resume.proofs.Purposes.{last-use}
 use borrow.Author.Needs.{needs}
 use Rattle.step.proofs.use_work.Statement.{statement}
 use Rattle.step.proofs.use_work.Tie as tie
 use Rattle.step.proofs.use_work.Reads as reads
 use Rattle.step.proofs.use_work.Lts as lts
-use Rattle.step.proofs.dynamic_trait.Reads as dynamic-trait-reads
-use Rattle.step.proofs.no_trait.Reads as no-trait-reads
-use Rattle.step.proofs.whole_work.Reads as whole-work-reads
+use Rattle.resume.proofs.dynamic_trait.Reads as dynamic-trait-reads
+use Rattle.resume.proofs.no_trait.Reads as no-trait-reads
+use Rattle.resume.proofs.whole_work.Reads as whole-work-reads
 
 no-trait-requires : tie.Need-no-trait-requires
 no-trait-requires c κs = search needs

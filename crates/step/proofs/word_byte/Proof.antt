@@ -1,11 +1,11 @@
 -- Made by proofs.py from answers/word_byte.txt: change that file, not this one.
--- answers 220c0edc129f proof ce2de9c5c864
+-- answers d637be6c8fb1 proof 128aa5154090
 use native.Mathlib.Omega.{arith}
 use mathlib.Core.Path.{refl, sym, _∙_}
 use Rattle.wire.proofs.U29.{part-within}
 use Rattle.format.specs.Step.{act}
-use Rattle.step.proofs.Refusals.{refuses}
-use Rattle.step.proofs.Settled.{waits}
+use Rattle.resume.proofs.Refusals.{refuses}
+use Rattle.resume.proofs.Settled.{waits}
 use Rattle.step.proofs.Parts.{whole-small, word-astray, word-waits, word-work-of}
 use borrow.Author.Needs.{needs}
 use Rattle.step.proofs.word_byte.Statement.{statement}

@@ -1,16 +1,16 @@
 -- Made by proofs.py from answers/word_work.txt: change that file, not this one.
--- answers 133efb94729e proof 4626221bc785
+-- answers 21768b628eda proof ad24963a7ea5
 use mathlib.Core.Path.{sym, _∙_}
 use Rattle.format.specs.Step.{atWord}
 use Rattle.format.specs.Numbers.{noWork, workOf}
-use Rattle.step.proofs.Purposes.{low-word, high-word}
+use Rattle.resume.proofs.Purposes.{low-word, high-word}
 use borrow.Author.Needs.{needs}
 use Rattle.step.proofs.word_work.Statement.{statement}
 use Rattle.step.proofs.word_work.Tie as tie
 use Rattle.step.proofs.word_work.Reads as reads
 use Rattle.step.proofs.word_work.Lts as lts
-use Rattle.step.proofs.no_span.Reads as no-span-reads
-use Rattle.step.proofs.row_work.Reads as row-work-reads
+use Rattle.resume.proofs.no_span.Reads as no-span-reads
+use Rattle.resume.proofs.row_work.Reads as row-work-reads
 use Rattle.step.proofs.use_work.Reads as use-work-reads
 
 no-span-requires : tie.Need-no-span-requires

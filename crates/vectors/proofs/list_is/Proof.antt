@@ -1,5 +1,5 @@
 -- Made by proofs.py from answers/list_is.txt: change that file, not this one.
--- answers 6f5d002ae489 proof cbdbd67f3b2c
+-- answers 6f5d002ae489 proof de4406e8fcb3
 use borrow.Author.Needs.{needs}
 use Prim.Native.Nat.{_-_}
 use Rattle.vectors.proofs.list_is.Statement.{statement}
@@ -7,7 +7,7 @@ use Rattle.vectors.proofs.list_is.Tie as tie
 use Rattle.vectors.proofs.list_is.Reads as reads
 use Rattle.vectors.proofs.list_is.Lts as lts
 use Rattle.lines.proofs.number.Reads as number-reads
-use Rattle.vectors.proofs.zero_from.Reads as zero-from-reads
+use Rattle.trials.proofs.zero_from.Reads as zero-from-reads
 
 abbrev Inv-loop : tie.InvT-loop
 Inv-loop line at xs n first i₀ p₀ i p = Unit {0}

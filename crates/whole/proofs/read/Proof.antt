@@ -1,5 +1,5 @@
 -- Made by proofs.py from answers/read.txt: change that file, not this one.
--- answers b94e94e73549 proof 00127488e064
+-- answers b94e94e73549 proof bf8b432bf0ca
 use mathlib.Core.Path.{ap, _∙_}
 use Rattle.decide.specs.Held.{doneOf}
 use Rattle.whole.proofs.Messages.{read-fault, read-finished, read-refused}
@@ -9,8 +9,8 @@ use Rattle.whole.proofs.read.Tie as tie
 use Rattle.whole.proofs.read.Reads as reads
 use Rattle.whole.proofs.read.Lts as lts
 use Rattle.rows.proofs.loan_fault.Reads as loan-fault-reads
-use Rattle.whole.proofs.clear.Reads as clear-reads
-use Rattle.whole.proofs.no_key.Reads as no-key-reads
+use Rattle.rows.proofs.clear.Reads as clear-reads
+use Rattle.rows.proofs.no_key.Reads as no-key-reads
 use Rattle.whole.proofs.value.Reads as value-reads
 
 loan-fault-requires : tie.Need-loan-fault-requires

@@ -1,5 +1,5 @@
 -- Made by proofs.py from answers/+write_array+write_dictionary+write_items+write_object+write_pairs+write_value+write_vector.txt: change that file, not this one.
--- answers d76a81ea7496 proof 02992bf35709
+-- answers d76a81ea7496 proof 1595d6e908b7
 use borrow.Author.Needs.{needs}
 use native.Mathlib.Omega.{arith}
 use mathlib.Core.Path.{_≡_, refl, sym, ap, _∙_}
@@ -40,7 +40,7 @@ use Rattle.rows.proofs.count_at.Reads as count-at-reads
 use Rattle.rows.proofs.end_at.Reads as end-at-reads
 use Rattle.rows.proofs.flag_at.Reads as flag-at-reads
 use Rattle.rows.proofs.kind_at.Reads as kind-at-reads
-use Rattle.writer.proofs.home_of.Reads as home-of-reads
+use Rattle.text.proofs.home_of.Reads as home-of-reads
 use Rattle.writer.proofs.put_byte.Reads as put-byte-reads
 use Rattle.writer.proofs.put_flagged.Reads as put-flagged-reads
 use Rattle.writer.proofs.put_head.Reads as put-head-reads

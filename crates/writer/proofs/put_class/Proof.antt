@@ -1,5 +1,5 @@
 -- Made by proofs.py from answers/put_class.txt: change that file, not this one.
--- answers acdb310982c8 proof 73e9864cf47b
+-- answers acdb310982c8 proof ba9b98a93eba
 use mathlib.Core.Path.{ap}
 use Rattle.writer.proofs.Streams as streams
 use Rattle.writer.proofs.Columns as columns
@@ -11,7 +11,7 @@ use Rattle.writer.proofs.put_class.Reads as reads
 use Rattle.writer.proofs.put_class.Lts as lts
 use Rattle.rows.proofs.body_at.Reads as body-at-reads
 use Rattle.rows.proofs.class_at.Reads as class-at-reads
-use Rattle.writer.proofs.clip.Reads as clip-reads
+use Rattle.text.proofs.clip.Reads as clip-reads
 use Rattle.writer.proofs.put_text.Reads as put-text-reads
 
 class-at-requires : tie.Need-class-at-requires

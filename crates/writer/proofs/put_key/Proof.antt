@@ -1,5 +1,5 @@
 -- Made by proofs.py from answers/put_key.txt: change that file, not this one.
--- answers 06c5c385bdb2 proof c5f0ba0c58ea
+-- answers 06c5c385bdb2 proof 7f910a8dfba0
 use mathlib.Core.Path.{ap}
 use mathlib.Core.List.{List}
 use Prim.Native.Nat.{ℕ}
@@ -13,7 +13,7 @@ use Rattle.writer.proofs.put_key.Tie as tie
 use Rattle.writer.proofs.put_key.Reads as reads
 use Rattle.writer.proofs.put_key.Lts as lts
 use Rattle.rows.proofs.key_at.Reads as key-at-reads
-use Rattle.writer.proofs.clip.Reads as clip-reads
+use Rattle.text.proofs.clip.Reads as clip-reads
 use Rattle.writer.proofs.put_text.Reads as put-text-reads
 
 key-at-requires : tie.Need-key-at-requires

@@ -1,5 +1,5 @@
 -- Made by proofs.py from answers/put_plain.txt: change that file, not this one.
--- answers 009434877064 proof 0681342879ff
+-- answers 009434877064 proof 4441589aa3ba
 use Rattle.writer.proofs.Streams as streams
 use Rattle.writer.proofs.Columns as columns
 use Rattle.writer.proofs.Bounds as bounds
@@ -13,7 +13,7 @@ use Rattle.rows.proofs.body_at.Reads as body-at-reads
 use Rattle.rows.proofs.flag_at.Reads as flag-at-reads
 use Rattle.rows.proofs.kind_at.Reads as kind-at-reads
 use Rattle.rows.proofs.number_at.Reads as number-at-reads
-use Rattle.writer.proofs.clip.Reads as clip-reads
+use Rattle.text.proofs.clip.Reads as clip-reads
 use Rattle.writer.proofs.put_boolean.Reads as put-boolean-reads
 use Rattle.writer.proofs.put_byte.Reads as put-byte-reads
 use Rattle.writer.proofs.put_date.Reads as put-date-reads
