@@ -4,12 +4,13 @@ use feed::Fed;
 use feed::State;
 use format::Answer;
 use libc::STDIN_FILENO;
+use rows::MESSAGE_LIMIT;
 ghost use mathlib.Core.Path.{_≡_};
 ghost use Rattle.amfrows.specs.Taken.{waiting, takenOf, withTaken};
 
 // A message has at most 262,144 bytes, and a reading that waits has taken one or more from each piece. So this many pieces, or the end of the input
 // before that, end every reading.
-const MOST_PIECES: usize = 262145;
+const MOST_PIECES: usize = MESSAGE_LIMIT + 1;
 
 // ---- answers
 

@@ -6,7 +6,7 @@ use native.Mathlib.Omega.{arith}
 use lib.Dec.{ltb, eqb}
 use borrow.Author.Tests.{lt-ltb, le-ltb, ne-eqb}
 use Rattle.format.specs.Decide.{Kind, leaf, integer, double, string, object, sized, Body, xml, date, array, bytes, objects, dictionary, raw, four, eight, kindOf}
-use Rattle.decide.specs.Held.{bodyNo}
+use Rattle.decide.specs.Outcomes.{bodyNo}
 
 -- two functions agree at the first n numbers, and past them
 abbrev Same : {A : Type 0} → (ℕ → A) → (ℕ → A) → ℕ → Type 0
@@ -20,12 +20,12 @@ same f g (suc n) e (suc b) = same (λ b. f (suc b)) (λ b. g (suc b)) n (e .1) b
 
 abbrev pub kindBy : ℕ → Kind
 kindBy b =
-    cond (ltb b 4) leaf (cond (ltb 17 b) leaf (cond (eqb b 4) integer (cond (eqb b 5) double (cond (eqb b 6) string (cond (eqb b 10) object (sized (bodyNo b)))))))
+    cond (ltb b 0x04) leaf (cond (ltb 17 b) leaf (cond (eqb b 0x04) integer (cond (eqb b 0x05) double (cond (eqb b 0x06) string (cond (eqb b 0x0A) object (sized (bodyNo b)))))))
 
 abbrev pub bodyBy : ℕ → Body
 bodyBy b =
-    cond (ltb b 8) xml (cond (eqb b 8) date (cond (eqb b 9) array (cond (ltb b 12) xml (cond (eqb b 12) bytes (cond (ltb b 15) (raw four)
-    (cond (eqb b 15) (raw eight) (cond (eqb b 16) objects (cond (eqb b 17) dictionary xml))))))))
+    cond (ltb b 0x08) xml (cond (eqb b 0x08) date (cond (eqb b 0x09) array (cond (ltb b 0x0C) xml (cond (eqb b 0x0C) bytes (cond (ltb b 0x0F) (raw four)
+    (cond (eqb b 0x0F) (raw eight) (cond (eqb b 0x10) objects (cond (eqb b 0x11) dictionary xml))))))))
 
 -- past the markers
 abbrev past : ℕ → ℕ
@@ -38,20 +38,20 @@ past-eq : (b n : ℕ) → n < 18 → eqb (past b) n ≡ false
 past-eq b n h = ne-eqb (past b) n (λ (e : past b ≡ n). omega (arith, e))
 
 kind-past : (b : ℕ) → kindBy (past b) ≡ leaf
-kind-past b = simp (past-lt b 4 (omega arith), lt-ltb 17 (past b) (omega arith))
+kind-past b = simp (past-lt b 0x04 (omega arith), lt-ltb 17 (past b) (omega arith))
 
 body-past : (b : ℕ) → bodyBy (past b) ≡ xml
 body-past b =
     simp (
-      past-lt b 8 (omega arith),
-      past-eq b 8 (omega arith),
-      past-eq b 9 (omega arith),
-      past-lt b 12 (omega arith),
-      past-eq b 12 (omega arith),
-      past-lt b 15 (omega arith),
-      past-eq b 15 (omega arith),
-      past-eq b 16 (omega arith),
-      past-eq b 17 (omega arith),
+      past-lt b 0x08 (omega arith),
+      past-eq b 0x08 (omega arith),
+      past-eq b 0x09 (omega arith),
+      past-lt b 0x0C (omega arith),
+      past-eq b 0x0C (omega arith),
+      past-lt b 0x0F (omega arith),
+      past-eq b 0x0F (omega arith),
+      past-eq b 0x10 (omega arith),
+      past-eq b 0x11 (omega arith),
     )
 
 pub kind-by : (b : ℕ) → kindBy b ≡ kindOf b

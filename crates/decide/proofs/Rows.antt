@@ -6,6 +6,7 @@ use native.Mathlib.Omega.{arith}
 use borrow.Author.Tests.{ltb-true, leb-true, le-leb, lt-leb}
 use lib.Dec.{ltb, leb}
 use Rattle.rows.specs.Memory.{messageLimit, rowWidth, colEnd}
+use Rattle.rows.specs.Memory.{messageMost}
 
 both : (a b : Bool) → (a && b) ≡ true → (a ≡ true) × (b ≡ true)
 both true b e = (refl, e)
@@ -17,10 +18,10 @@ used-row len used row e t =
     let p : (ltb row used ≡ true) × (leb used (len / rowWidth) ≡ true) = both (ltb row used) (leb used (len / rowWidth)) (sym e ∙ t) in
     omega (arith, ltb-true row used (p .0), leb-true used (len / rowWidth) (p .1))
 
-pub limit-past : (n : ℕ) → 262144 ≤ n → leb messageLimit n ≡ true
+pub limit-past : (n : ℕ) → messageMost ≤ n → leb messageLimit n ≡ true
 unfolding messageLimit
-limit-past n h = le-leb 262144 n h
+limit-past n h = le-leb messageMost n h
 
-pub limit-ahead : (n : ℕ) → n < 262144 → leb messageLimit n ≡ false
+pub limit-ahead : (n : ℕ) → n < messageMost → leb messageLimit n ≡ false
 unfolding messageLimit
-limit-ahead n h = lt-leb 262144 n h
+limit-ahead n h = lt-leb messageMost n h

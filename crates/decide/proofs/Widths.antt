@@ -5,7 +5,7 @@ use native.Mathlib.Omega.{arith}
 use Rattle.format.specs.Decide.{widthOf}
 use Rattle.decide.specs.declared.Width.{Width}
 use Rattle.decide.specs.declared.Width.the-variants.{Four, Eight}
-use Rattle.decide.specs.Held.{widthIn}
+use Rattle.decide.specs.Outcomes.{widthIn}
 
 pub width-some : (w : Width) {n : ℕ} → n ≡ widthOf (widthIn w) → 0 < n
 width-some Four e = omega arith

@@ -1,12 +1,26 @@
 // Every decision of a reading: each takes only the loans that it touches, and is the definition of the same name. The cursor's place is already past the
 // byte that is decided on.
 
+use format::refusals;
 use rows::Cursor;
 use rows::Key;
+use rows::MESSAGE_LIMIT;
+use rows::ROW_WIDTH;
 use rows::Row;
+use rows::SPAN_SIZE;
+use rows::SPAN_WIDTH;
 use rows::Span;
+use rows::TRAIT_COUNT;
+use rows::TRAIT_DYNAMIC;
+use rows::TRAIT_FIRST;
+use rows::TRAIT_SIZE;
+use rows::TRAIT_WIDTH;
 use rows::Trait;
+use rows::columns;
+use rows::kinds;
+use rows::loans;
 use wire::Date;
+use wire::markers;
 ghost use mathlib.Core.Path.{_≡_};
 ghost use mathlib.Core.Bool.{cond};
 ghost use mathlib.Core.List.{List, [], _∷_};
@@ -17,105 +31,40 @@ ghost use lib.Seq.{sets};
 ghost use Rattle.wire.specs.Put.{with1};
 ghost use Rattle.rows.specs.Memory.{spanWidth};
 ghost use Rattle.format.specs.Decide as d;
+ghost use Rattle.format.specs.Refusals as no;
 ghost use Rattle.decide.specs.declared.Done.the-variants as done;
 ghost use Rattle.decide.specs.declared.Begun.the-variants as begun;
 ghost use Rattle.decide.specs.declared.Text.the-variants as text;
 ghost use Rattle.decide.specs.declared.Traited.the-variants as traited;
 ghost use Rattle.decide.specs.declared.Keyed.the-variants as keyed;
 ghost use Rattle.decide.specs.declared.Whether.the-variants as whether;
-ghost use Rattle.decide.specs.Held.{leaving, doneOf, begunOf, textOf, traitedOf, keyedOf, whetherOf, widthIn, kindIn, bodyIn, bodyNo};
+ghost use Rattle.decide.specs.Outcomes.{leaving, doneOf, begunOf, textOf, traitedOf, keyedOf, whetherOf, widthIn, kindIn, bodyIn, bodyNo};
 
-// ---- numbers per entry, and their places in it
+// ---- markers, as numbers
 
-const ROW_WIDTH: usize = 12;
+const MARKER_TRUE: usize = markers::TRUE as usize;
 
-const SPAN_WIDTH: usize = 2;
+const MARKER_INTEGER: usize = markers::INTEGER as usize;
 
-const TRAIT_WIDTH: usize = 5;
+const MARKER_DOUBLE: usize = markers::DOUBLE as usize;
 
-const SPAN_SIZE: usize = 1;
+const MARKER_STRING: usize = markers::STRING as usize;
 
-const TRAIT_SIZE: usize = 1;
+const MARKER_DATE: usize = markers::DATE as usize;
 
-const TRAIT_DYNAMIC: usize = 2;
+const MARKER_ARRAY: usize = markers::ARRAY as usize;
 
-const TRAIT_FIRST: usize = 3;
+const MARKER_OBJECT: usize = markers::OBJECT as usize;
 
-const TRAIT_COUNT: usize = 4;
+const MARKER_BYTE_ARRAY: usize = markers::BYTE_ARRAY as usize;
 
-const COL_KIND: usize = 0;
+const MARKER_DOUBLE_VECTOR: usize = markers::DOUBLE_VECTOR as usize;
 
-const COL_BODY_BEGIN: usize = 4;
+const MARKER_OBJECT_VECTOR: usize = markers::OBJECT_VECTOR as usize;
 
-const COL_BODY_SIZE: usize = 5;
+const MARKER_DICTIONARY: usize = markers::DICTIONARY as usize;
 
-const COL_CLASS_MARK: usize = 6;
-
-const COL_FLAG: usize = 7;
-
-const COL_NUMBER: usize = 8;
-
-const COL_COUNT: usize = 9;
-
-const COL_END: usize = 11;
-
-const KIND_REFERENCE: usize = 18;
-
-const MARKER_TRUE: usize = 3;
-
-const MARKER_INTEGER: usize = 4;
-
-const MARKER_DOUBLE: usize = 5;
-
-const MARKER_STRING: usize = 6;
-
-const MARKER_DATE: usize = 8;
-
-const MARKER_ARRAY: usize = 9;
-
-const MARKER_OBJECT: usize = 10;
-
-const MARKER_BYTES: usize = 12;
-
-const MARKER_DOUBLES: usize = 15;
-
-const MARKER_OBJECTS: usize = 16;
-
-const MARKER_DICTIONARY: usize = 17;
-
-const MARKER_LAST: usize = 0x11;
-
-const MESSAGE_LIMIT: usize = 262144;
-
-// ---- refusals by number, and the loans that 10 tells
-
-const UNKNOWN_MARKER: usize = 3;
-
-const NO_ENTRY: usize = 4;
-
-const STILL_OPEN: usize = 5;
-
-const NO_DATE: usize = 7;
-
-const NO_TEXT: usize = 8;
-
-const TOO_DEEP: usize = 9;
-
-const NO_ROOM: usize = 10;
-
-const LOST: usize = 12;
-
-const ROWS: usize = 1;
-
-const STORE: usize = 2;
-
-const STRINGS: usize = 3;
-
-const OBJECTS: usize = 4;
-
-const TRAITS: usize = 5;
-
-const NAMES: usize = 6;
+const MARKER_LAST: usize = MARKER_DICTIONARY;
 
 // ---- answers
 
@@ -242,10 +191,10 @@ pub fn no_flag(a: Whether) -> Refusal
 
 // The state doesn't hold together.
 pub fn lost() -> Refusal
-    ensures { λ r. ⌜ r ≡ record { number = 12; told = 0; place = 0 } ⌝ }
+    ensures { λ r. ⌜ r ≡ record { number = no.lost; told = 0; place = 0 } ⌝ }
 {
     Refusal {
-        number: LOST,
+        number: refusals::LOST,
         told: 0,
         place: 0,
     }
@@ -302,19 +251,19 @@ pub fn body_of(b: usize) -> Body
     if b == MARKER_ARRAY {
         return Body::Array;
     }
-    if b < MARKER_BYTES {
+    if b < MARKER_BYTE_ARRAY {
         return Body::Xml;
     }
-    if b == MARKER_BYTES {
+    if b == MARKER_BYTE_ARRAY {
         return Body::Bytes;
     }
-    if b < MARKER_DOUBLES {
+    if b < MARKER_DOUBLE_VECTOR {
         return Body::RawFour;
     }
-    if b == MARKER_DOUBLES {
+    if b == MARKER_DOUBLE_VECTOR {
         return Body::RawEight;
     }
-    if b == MARKER_OBJECTS {
+    if b == MARKER_OBJECT_VECTOR {
         return Body::Objects;
     }
     if b == MARKER_DICTIONARY {
@@ -362,13 +311,13 @@ pub fn marker(rows: &mut [usize], c: Cursor, key: Key, left: usize, b: usize) ->
         return Begun::No(lost());
     }
     if MARKER_LAST < b {
-        return Begun::No(refuse(c, UNKNOWN_MARKER, b));
+        return Begun::No(refuse(c, refusals::BAD_MARKER, b));
     }
     if left == 0 {
-        return Begun::No(refuse(c, TOO_DEEP, 0));
+        return Begun::No(refuse(c, refusals::TOO_DEEP, 0));
     }
     if rows.len() / ROW_WIDTH <= used {
-        return Begun::No(refuse(c, NO_ROOM, ROWS));
+        return Begun::No(refuse(c, refusals::NO_ROOM, loans::ROWS));
     }
     let next = used + 1;
     rows::put_row(
@@ -398,7 +347,7 @@ pub fn closed(rows: &mut [usize], c: Cursor, row: usize) -> Done
     ensures { λ r. ⌜ with1 (doneOf r) (now (rows .exit)) ≡ leaving (now (rows .entry)) (d.closed row (now (rows .entry)) c) ⌝ }
 {
     if rows::row_used(rows.len(), c.rows, row) {
-        rows[row * ROW_WIDTH + COL_END] = c.rows;
+        rows[row * ROW_WIDTH + columns::END] = c.rows;
         return Done::Fine(c);
     }
     Done::Refused(lost())
@@ -409,8 +358,8 @@ pub fn numbered(rows: &mut [usize], c: Cursor, row: usize, n: usize) -> Done
     ensures { λ r. ⌜ with1 (doneOf r) (now (rows .exit)) ≡ leaving (now (rows .entry)) (d.numbered row n (now (rows .entry)) c) ⌝ }
 {
     if rows::row_used(rows.len(), c.rows, row) {
-        rows[row * ROW_WIDTH + COL_NUMBER] = n;
-        rows[row * ROW_WIDTH + COL_END] = c.rows;
+        rows[row * ROW_WIDTH + columns::NUMBER] = n;
+        rows[row * ROW_WIDTH + columns::END] = c.rows;
         return Done::Fine(c);
     }
     Done::Refused(lost())
@@ -433,7 +382,7 @@ pub fn date_end(rows: &mut [usize], c: Cursor, row: usize, bits: usize) -> Done
     let date = wire::date_millis(bits);
     match date {
         Date::Millis(n) => numbered(rows, c, row, n),
-        Date::Refused => Done::Refused(refuse(c, NO_DATE, bits)),
+        Date::Refused => Done::Refused(refuse(c, refusals::BAD_DATE, bits)),
     }
 }
 
@@ -442,8 +391,8 @@ pub fn bodied(rows: &mut [usize], c: Cursor, row: usize, s: Span) -> Done
     ensures { λ r. ⌜ with1 (doneOf r) (now (rows .exit)) ≡ leaving (now (rows .entry)) (d.bodied row s (now (rows .entry)) c) ⌝ }
 {
     if rows::row_used(rows.len(), c.rows, row) {
-        rows[row * ROW_WIDTH + COL_BODY_BEGIN] = s.begin;
-        rows[row * ROW_WIDTH + COL_BODY_SIZE] = s.size;
+        rows[row * ROW_WIDTH + columns::BODY_BEGIN] = s.begin;
+        rows[row * ROW_WIDTH + columns::BODY_SIZE] = s.size;
         return Done::Fine(c);
     }
     Done::Refused(lost())
@@ -454,9 +403,9 @@ fn classed(rows: &mut [usize], c: Cursor, row: usize, mark: usize, s: Span) -> D
     ensures { λ r. ⌜ with1 (doneOf r) (now (rows .exit)) ≡ leaving (now (rows .entry)) (d.classed row mark s (now (rows .entry)) c) ⌝ }
 {
     if rows::row_used(rows.len(), c.rows, row) {
-        rows[row * ROW_WIDTH + COL_CLASS_MARK] = mark;
-        rows[row * ROW_WIDTH + COL_BODY_BEGIN] = s.begin;
-        rows[row * ROW_WIDTH + COL_BODY_SIZE] = s.size;
+        rows[row * ROW_WIDTH + columns::CLASS_MARK] = mark;
+        rows[row * ROW_WIDTH + columns::BODY_BEGIN] = s.begin;
+        rows[row * ROW_WIDTH + columns::BODY_SIZE] = s.size;
         return Done::Fine(c);
     }
     Done::Refused(lost())
@@ -510,7 +459,7 @@ pub fn flagged(rows: &mut [usize], c: Cursor, row: usize, flag: usize) -> Done
     ensures { λ r. ⌜ with1 (doneOf r) (now (rows .exit)) ≡ leaving (now (rows .entry)) (d.flagged row flag (now (rows .entry)) c) ⌝ }
 {
     if rows::row_used(rows.len(), c.rows, row) {
-        rows[row * ROW_WIDTH + COL_FLAG] = flag;
+        rows[row * ROW_WIDTH + columns::FLAG] = flag;
         return Done::Fine(c);
     }
     Done::Refused(lost())
@@ -557,7 +506,7 @@ pub fn grown(rows: &mut [usize], c: Cursor, row: usize, w: Width, s: Span, n: us
     ensures { λ r. ⌜ with1 (doneOf r) (now (rows .exit)) ≡ leaving (now (rows .entry)) (d.grown row (widthIn w) s n (now (rows .entry)) c) ⌝ }
 {
     if rows::row_used(rows.len(), c.rows, row) {
-        rows[row * ROW_WIDTH + COL_COUNT] = without(s.size, n) / width_of(w);
+        rows[row * ROW_WIDTH + columns::COUNT] = without(s.size, n) / width_of(w);
         return Done::Fine(c);
     }
     Done::Refused(lost())
@@ -573,7 +522,7 @@ pub fn old_text(strings: &[usize], c: Cursor, i: usize) -> Text
         return Text::No(lost());
     }
     if c.strings <= i {
-        return Text::No(refuse(c, NO_ENTRY, i));
+        return Text::No(refuse(c, refusals::NO_ENTRY, i));
     }
     let begin = strings[i * SPAN_WIDTH];
     let size = strings[i * SPAN_WIDTH + SPAN_SIZE];
@@ -602,7 +551,7 @@ pub fn reserved(len: usize, c: Cursor, n: usize) -> Text
             after,
         );
     }
-    Text::No(refuse(c, NO_ROOM, STORE))
+    Text::No(refuse(c, refusals::NO_ROOM, loans::STORE))
 }
 
 // A byte of a span, `n` more to come after it.
@@ -629,7 +578,7 @@ pub fn judged(c: Cursor, valid: bool) -> Done
     if valid {
         return Done::Fine(c);
     }
-    Done::Refused(refuse(c, NO_TEXT, 0))
+    Done::Refused(refuse(c, refusals::BAD_TEXT, 0))
 }
 
 // Span `i` of a table of spans.
@@ -650,10 +599,10 @@ pub fn text_end(strings: &mut [usize], c: Cursor, s: Span, valid: bool) -> Text
         return Text::No(lost());
     }
     if !valid {
-        return Text::No(refuse(c, NO_TEXT, 0));
+        return Text::No(refuse(c, refusals::BAD_TEXT, 0));
     }
     if strings.len() / SPAN_WIDTH <= used {
-        return Text::No(refuse(c, NO_ROOM, STRINGS));
+        return Text::No(refuse(c, refusals::NO_ROOM, loans::STRINGS));
     }
     put_span(strings, used, s);
     let mut after = c;
@@ -675,7 +624,7 @@ pub fn entered(objects: &mut [usize], c: Cursor, row: usize) -> Done
         return Done::Refused(lost());
     }
     if objects.len() <= used {
-        return Done::Refused(refuse(c, NO_ROOM, OBJECTS));
+        return Done::Refused(refuse(c, refusals::NO_ROOM, loans::OBJECTS));
     }
     objects[used] = row;
     let mut after = c;
@@ -691,23 +640,23 @@ pub fn referred(rows: &mut [usize], objects: &[usize], c: Cursor, row: usize, i:
         return Done::Refused(lost());
     }
     if c.objects <= i {
-        return Done::Refused(refuse(c, NO_ENTRY, i));
+        return Done::Refused(refuse(c, refusals::NO_ENTRY, i));
     }
     let object = objects[i];
     if !rows::row_used(rows.len(), c.rows, object) {
         return Done::Refused(lost());
     }
-    let end = rows[object * ROW_WIDTH + COL_END];
+    let end = rows[object * ROW_WIDTH + columns::END];
     if c.rows < end {
         return Done::Refused(lost());
     }
     if end == 0 {
-        return Done::Refused(refuse(c, STILL_OPEN, i));
+        return Done::Refused(refuse(c, refusals::OPEN_OBJECT, i));
     }
     if rows::row_used(rows.len(), c.rows, row) {
-        rows[row * ROW_WIDTH + COL_KIND] = KIND_REFERENCE;
-        rows[row * ROW_WIDTH + COL_NUMBER] = object;
-        rows[row * ROW_WIDTH + COL_END] = c.rows;
+        rows[row * ROW_WIDTH + columns::KIND] = kinds::REFERENCE;
+        rows[row * ROW_WIDTH + columns::NUMBER] = object;
+        rows[row * ROW_WIDTH + columns::END] = c.rows;
         return Done::Fine(c);
     }
     Done::Refused(lost())
@@ -736,7 +685,7 @@ pub fn old_trait(traits: &[usize], c: Cursor, i: usize) -> Traited
         return Traited::No(lost());
     }
     if c.traits <= i {
-        return Traited::No(refuse(c, NO_ENTRY, i));
+        return Traited::No(refuse(c, refusals::NO_ENTRY, i));
     }
     let t = Trait {
         begin: traits[i * TRAIT_WIDTH],
@@ -777,7 +726,7 @@ pub fn named(names: &mut [usize], c: Cursor, s: Span) -> Text
         return Text::No(lost());
     }
     if names.len() / SPAN_WIDTH <= used {
-        return Text::No(refuse(c, NO_ROOM, NAMES));
+        return Text::No(refuse(c, refusals::NO_ROOM, loans::NAMES));
     }
     put_span(names, used, s);
     let mut after = c;
@@ -797,7 +746,7 @@ pub fn trait_end(traits: &mut [usize], c: Cursor, t: Trait) -> Done
         return Done::Refused(lost());
     }
     if traits.len() / TRAIT_WIDTH <= used {
-        return Done::Refused(refuse(c, NO_ROOM, TRAITS));
+        return Done::Refused(refuse(c, refusals::NO_ROOM, loans::TRAITS));
     }
     traits[used * TRAIT_WIDTH] = t.begin;
     traits[used * TRAIT_WIDTH + TRAIT_SIZE] = t.size;

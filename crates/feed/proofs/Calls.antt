@@ -15,13 +15,17 @@ use Rattle.format.specs.declared.Work.{Work}
 use Rattle.format.specs.Reading.{finished, refused}
 use Rattle.format.specs.Step as step
 use Rattle.format.specs.Step.{wait, over, none}
-use Rattle.format.specs.Numbers.{Numbers, Held, held, stateOf, afterStep, numbered, modeOf, framesOf, workOf, work, noTrait, laid, lentOf}
+use Rattle.format.specs.Numbers.{Numbers, Held, held, stateOf, afterStep, numbersOf, modeOf, framesOf, workOf, work, noTrait, laid, lentOf}
 use Rattle.format.specs.Answers.{Fed, fed, answerOf, answered, blank, beginCall, runHeld, takenBy, feedCall, endOf, endCall}
 use Rattle.format.proofs.Tests.{clash}
 use Rattle.decide.specs.declared.Refusal.{Refusal}
 use Rattle.resume.specs.declared.Next.the-variants.{Wait, Refused}
-use Rattle.resume.specs.Held.{refusalOf}
-use Rattle.feed.specs.Held.{numbers, hasEnded, headOf, endRefusal}
+use Rattle.resume.specs.Steps.{refusalOf}
+use Rattle.pieces.specs.States.{numbers, hasEnded, headOf}
+use Rattle.feed.specs.Calls.{endRefusal}
+use Rattle.format.specs.Codes.{statusWaiting, statusFinished, statusRefused}
+use Rattle.format.specs.Numbers.{framesSize}
+use Rattle.format.specs.Refusals as refusals
 
 module _ (h : Head) (F : List ℕ) (m : Memory) where
   -- the state of a head, by its tests
@@ -32,12 +36,12 @@ module _ (h : Head) (F : List ℕ) (m : Memory) where
 
   -- refused by a number of ours
   abbrev ours : Bool
-  ours = eqb (h .status) 3 && leb 1 (h .number) && leb (h .number) 12
+  ours = eqb (h .status) statusRefused && leb refusals.badLoan (h .number) && leb (h .number) refusals.lost
 
-  pub refused-answer : (n : ℕ) → (h .status ≡ 1 → ⊥) → (h .status ≡ 2 → ⊥) → hasEnded h ≡ true
+  pub refused-answer : (n : ℕ) → (h .status ≡ statusWaiting → ⊥) → (h .status ≡ statusFinished → ⊥) → hasEnded h ≡ true
       → answer.Refused (h .number) (h .told) (h .place) n ≡ answerOf (stateOf (numbers h F) m) n
   unfolding hasEnded stateOf
-  refused-answer n p q e = by (eqb (h .status) 1) (eqb (h .status) 2) ours (ne-eqb (h .status) 1 p) (ne-eqb (h .status) 2 q) e
+  refused-answer n p q e = by (eqb (h .status) statusWaiting) (eqb (h .status) statusFinished) ours (ne-eqb (h .status) statusWaiting p) (ne-eqb (h .status) statusFinished q) e
     where
       by : (t u v : Bool) → t ≡ false → u ≡ false → cond t false (u || v) ≡ true
           → answer.Refused (h .number) (h .told) (h .place) n ≡ answerOf (told t u v) n
@@ -46,11 +50,11 @@ module _ (h : Head) (F : List ℕ) (m : Memory) where
       by false false true p q e = refl
       by false false false p q e = clash cc
 
-  pub lost-answer : (n : ℕ) → (h .status ≡ 1 → ⊥) → hasEnded h ≡ false → answer.Refused 12 0 0 n ≡ answerOf (stateOf (numbers h F) m) n
+  pub lost-answer : (n : ℕ) → (h .status ≡ statusWaiting → ⊥) → hasEnded h ≡ false → answer.Refused refusals.lost 0 0 n ≡ answerOf (stateOf (numbers h F) m) n
   unfolding hasEnded stateOf
-  lost-answer n p e = by (eqb (h .status) 1) (eqb (h .status) 2) ours (ne-eqb (h .status) 1 p) e
+  lost-answer n p e = by (eqb (h .status) statusWaiting) (eqb (h .status) statusFinished) ours (ne-eqb (h .status) statusWaiting p) e
     where
-      by : (t u v : Bool) → t ≡ false → cond t false (u || v) ≡ false → answer.Refused 12 0 0 n ≡ answerOf (told t u v) n
+      by : (t u v : Bool) → t ≡ false → cond t false (u || v) ≡ false → answer.Refused refusals.lost 0 0 n ≡ answerOf (told t u v) n
       by true u v p e = clash cc
       by false true v p e = clash cc
       by false false true p e = clash cc
@@ -59,7 +63,7 @@ module _ (h : Head) (F : List ℕ) (m : Memory) where
   -- what has ended stays
   pub end-stays : hasEnded h ≡ true → answered (held (numbers h F) m) 0 ≡ endCall (numbers h F) m
   unfolding hasEnded endCall stateOf
-  end-stays e = by (eqb (h .status) 1) (eqb (h .status) 2) ours e
+  end-stays e = by (eqb (h .status) statusWaiting) (eqb (h .status) statusFinished) ours e
     where
       by : (t u v : Bool) → cond t false (u || v) ≡ true
           → answered (held (numbers h F) m) 0 ≡ endOf (numbers h F) m (told t u v)
@@ -71,12 +75,12 @@ module _ (h : Head) (F : List ℕ) (m : Memory) where
   -- what has not is refused, and the loans are zero
   pub end-refuses : (r : Refusal) (h′ : Head) (m′ : Memory) → hasEnded h ≡ false → r ≡ endRefusal h → h′ ≡ headOf (h .lent) (Refused r) → m′ ≡ zeroed m
       → answered (held (numbers h′ F) m′) 0 ≡ endCall (numbers h F) m
-  unfolding hasEnded endCall stateOf endRefusal afterStep numbered step.end
+  unfolding hasEnded endCall stateOf endRefusal afterStep numbersOf step.end
   end-refuses r h′ m′ e p q s =
-      rw (s, q, p) (by (eqb (h .status) 1) (eqb (h .status) 2) ours e)
+      rw (s, q, p) (by (eqb (h .status) statusWaiting) (eqb (h .status) statusFinished) ours e)
     where
       by : (t u v : Bool) → cond t false (u || v) ≡ false
-          → answered (held (numbers (headOf (h .lent) (Refused (cond t (refusalOf 2 0 (h .cursor .at)) (refusalOf 12 0 0)))) F) (zeroed m)) 0
+          → answered (held (numbers (headOf (h .lent) (Refused (cond t (refusalOf refusals.unexpectedEnd 0 (h .cursor .at)) (refusalOf refusals.lost 0 0)))) F) (zeroed m)) 0
           ≡ endOf (numbers h F) m (told t u v)
       by true u v e = refl
       by false true v e = clash cc
@@ -87,19 +91,19 @@ module _ (h : Head) (F : List ℕ) (m : Memory) where
 
 module _ (m : Memory) (loan : ℕ) (f : loan ≡ faultOf m) (h : Head) where
   -- a wrong loan leaves all of them as they are
-  pub begin-refuses : (loan ≡ 0 → ⊥) → h ≡ headOf (lentOf m) (Refused (refusalOf 1 loan 0)) → answered (held (numbers h (replicate 384 0)) m) 0 ≡ beginCall m
-  unfolding beginCall step.begin afterStep numbered openLimit
+  pub begin-refuses : (loan ≡ 0 → ⊥) → h ≡ headOf (lentOf m) (Refused (refusalOf refusals.badLoan loan 0)) → answered (held (numbers h (replicate framesSize 0)) m) 0 ≡ beginCall m
+  unfolding beginCall step.begin afterStep numbersOf openLimit
   begin-refuses n p = rw p (by (faultOf m) loan f n)
     where
       by : (k loan : ℕ) → loan ≡ k → (loan ≡ 0 → ⊥)
-          → answered (held (numbers (headOf (lentOf m) (Refused (refusalOf 1 loan 0))) (replicate 384 0)) m) 0
+          → answered (held (numbers (headOf (lentOf m) (Refused (refusalOf refusals.badLoan loan 0))) (replicate framesSize 0)) m) 0
           ≡ answered (afterStep (blank (lentOf m)) (step.beginAt k m)) 0
       by zero loan f n = absurd (n f)
       by (suc k) loan f n = rw f refl
 
   pub begin-waits : (w : Work) (c : Cursor) (m′ : Memory) → loan ≡ 0 → w ≡ work 1 0 0 0 0 noSpan noTrait 0 0 → c ≡ fresh → h ≡ headOf (lentOf m) (Wait w c 0) → m′ ≡ zeroed m
-      → answered (held (numbers h (replicate 384 0)) m′) 0 ≡ beginCall m
-  unfolding beginCall step.begin afterStep numbered openLimit workOf laid
+      → answered (held (numbers h (replicate framesSize 0)) m′) 0 ≡ beginCall m
+  unfolding beginCall step.begin afterStep numbersOf openLimit workOf laid
   begin-waits w c m′ z p q r s = rw (s, r, q, p, sym f ∙ z)
 
 -- ---- a piece

@@ -22,6 +22,7 @@ use Rattle.format.specs.Standard as std
 use Rattle.format.specs.Standard.{Tables, Std}
 use Rattle.format.proofs.Tests.{clash}
 use Rattle.format.proofs.Memories.{atTo}
+use Rattle.format.specs.Refusals as refusals
 
 -- ---- the bytes left
 
@@ -48,7 +49,7 @@ pub data Agree (whole : List ℕ) {A B : Type 0} (Q : A → Memory → Cursor �
   fine : {a : A} {m : Memory} {c : Cursor} {b : B} {s : Tables} {bs : List ℕ} → Left whole (c .at) bs → Q a m c b s
       → Agree whole Q (ok a m c bs) (ok b s (c .at) bs)
   both : {n t p : ℕ} {m : Memory} {s : Tables} → 2 ≤ n → n ≤ 8 → Agree whole Q (bad n t p m) (bad n t p s)
-  ours : {n t p : ℕ} {m : Memory} {y : ResultOf Tables ℕ B} → 9 ≤ n → n ≤ 11 → Agree whole Q (bad n t p m) y
+  ours : {n t p : ℕ} {m : Memory} {y : ResultOf Tables ℕ B} → refusals.tooDeep ≤ n → n ≤ refusals.tooLong → Agree whole Q (bad n t p m) y
 
 module _ {whole : List ℕ} {A B C D : Type 0} {R : A → Memory → Cursor → B → Tables → Type 0} {Q : C → Memory → Cursor → D → Tables → Type 0} where
   -- one after the other
@@ -89,7 +90,7 @@ module _ (whole : List ℕ) (octets : Bytes whole) {C D : Type 0} {Q : C → Mem
   byte-then c [] f g l k = both (lit≤ tt) (lit≤ tt)
   byte-then c (b ∷ bs) f g l k = test (leb messageLimit (c .at)) refl
     where
-      test : (t : Bool) → leb messageLimit (c .at) ≡ t → Agree whole Q (bind (cond t (bad 11 0 (c .at) m) (ok b m (taken c) bs)) f)
+      test : (t : Bool) → leb messageLimit (c .at) ≡ t → Agree whole Q (bind (cond t (bad refusals.tooLong 0 (c .at) m) (ok b m (taken c) bs)) f)
           (g b s (suc (c .at)) bs)
       test true e = ours (lit≤ tt) (lit≤ tt)
       test false e = let h = left-byte octets l in k b bs (h .0) (h .1) (leb-false messageLimit (c .at) e)

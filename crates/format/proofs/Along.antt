@@ -46,6 +46,7 @@ use Rattle.format.proofs.Kept.{keeps-on-strings, keeps-on-objects, keep
 use Rattle.format.proofs.Kept.{keeps-integer, keeps-date, keeps-bodied, keeps-object, keeps-vector, keeps-flagged, keeps-counted}
 use Rattle.format.proofs.Kept.{keeps-grown, keeps-referred, keeps-marker, keeps-shut, keeps-old-text, keeps-reserved, keeps-stored, keeps-judged}
 use Rattle.format.proofs.Kept.{keeps-text-end, keeps-entered, keeps-old-trait, keeps-named, keeps-trait-end, keeps-sealed, keeps-starred}
+use Rattle.format.specs.Refusals as refusals
 
 -- as many open values as a mode may have around it
 abbrev pub Fits : Mode → ℕ → Type 0
@@ -81,7 +82,7 @@ pub data Left : ℕ → Memory → Type 0 where
 pub data Good (lent : Lent) (at : ℕ) : State → Type 0 where
   waits : {x : Mode} {ts : List Frame} {c : Cursor} {m : Memory} → Holds lent at c m → Fits x (length ts) → ModeIn x c → Good lent at (wait x ts c m)
   finishes : {c : Cursor} {m : Memory} → Holds lent at c m → Good lent at (over (finished c m))
-  declines : {n told place : ℕ} {m : Memory} → T (leb 1 n && leb n 12) → Lends lent m → Left n m → Good lent at (over (refused n told place m))
+  declines : {n told place : ℕ} {m : Memory} → T (leb refusals.badLoan n && leb n refusals.lost) → Lends lent m → Left n m → Good lent at (over (refused n told place m))
 
 pub lends-zeroed : (lent : Lent) (m : Memory) → Lends lent m → Lends lent (zeroed m)
 unfolding zeroed lentOf

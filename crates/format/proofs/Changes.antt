@@ -18,6 +18,7 @@ use Rattle.format.proofs.Memories.{atTo, withRows, withStore, withStrin
 use Rattle.format.proofs.Ground.{land, Ext, ext-kept, ext-put, ext-same, landTo}
 use Rattle.format.proofs.Rep.{Text, Own, own-ext}
 use Rattle.format.proofs.Tables.{TraitRep, noTraits, Entry, Sim, sim-grow}
+use Rattle.rows.specs.Memory.{rowWidth}
 
 -- ---- rows, store and names
 
@@ -75,25 +76,25 @@ module _ {u : ℕ} {m : Memory} {c : Cursor} {s : Tables} (x : Sim u m c s) wher
       (ext-store (m .store) v h (omega arith) (λ i l. refl)) (λ r l e. e)
 
   -- a column of an open row
-  module _ (r j v : ℕ) (o : cell (m .rows) r colEnd ≡ 0) (w : j < 12) where
-    pub sim-put : j < 11 → Sim u (withRows m (put (m .rows) r j v)) c s
+  module _ (r j v : ℕ) (o : cell (m .rows) r colEnd ≡ 0) (w : j < rowWidth) where
+    pub sim-put : j < colEnd → Sim u (withRows m (put (m .rows) r j v)) c s
     sim-put h =
         sim-grow x (put (m .rows) r j v) (m .store) (m .names) (c .at) (c .rows) (c .store) (c .names) u (x .limit) (rw length-set (x .rowsIn))
         (x .settled) (x .storeIn) (x .namesIn)
-        (omega arith) (λ i l. refl) (ext-put (landTo u m c) r j v o w) (λ q l e. let f : q * 12 + 11 ≢ r * 12 + j = omega arith in rw getD-set-other e)
+        (omega arith) (λ i l. refl) (ext-put (landTo u m c) r j v o w) (λ q l e. let f : q * rowWidth + colEnd ≢ r * rowWidth + j = omega arith in rw getD-set-other e)
 
   -- a row more
-  module _ (cs : List ℕ) (long : length cs ≡ 12) (fits : c .rows * 12 + 12 ≤ length (m .rows)) where
-    pub sim-row : Sim u (withRows m (sets (m .rows) (c .rows * 12) cs)) (rowsTo c (c .rows + 1)) s
+  module _ (cs : List ℕ) (long : length cs ≡ rowWidth) (fits : c .rows * rowWidth + rowWidth ≤ length (m .rows)) where
+    pub sim-row : Sim u (withRows m (sets (m .rows) (c .rows * rowWidth) cs)) (rowsTo c (c .rows + 1)) s
     sim-row =
-        let e = length-sets (m .rows) (c .rows * 12) cs in
-        let same : Kept (c .rows * 12) (m .rows) (sets (m .rows) (c .rows * 12) cs) = kept-sets (c .rows * 12) (c .rows * 12) cs (m .rows) (omega arith) in
+        let e = length-sets (m .rows) (c .rows * rowWidth) cs in
+        let same : Kept (c .rows * rowWidth) (m .rows) (sets (m .rows) (c .rows * rowWidth) cs) = kept-sets (c .rows * rowWidth) (c .rows * rowWidth) cs (m .rows) (omega arith) in
         let p : u ≤ length (m .store) = (let a = x .settled in let b = x .storeIn in omega arith) in
-        sim-grow x (sets (m .rows) (c .rows * 12) cs) (m .store) (m .names) (c .at) (c .rows + 1) (c .store) (c .names) u (x .limit) (omega arith)
+        sim-grow x (sets (m .rows) (c .rows * rowWidth) cs) (m .store) (m .names) (c .at) (c .rows + 1) (c .store) (c .names) u (x .limit) (omega arith)
         (x .settled) (x .storeIn) (x .namesIn)
         (omega arith) (λ i l. refl)
         (ext-kept (omega arith) same (omega arith) (λ i l. refl) p p)
-        (λ q l e. same (q * 12 + 11) (omega arith) ∙ e)
+        (λ q l e. same (q * rowWidth + colEnd) (omega arith) ∙ e)
 
   -- a name more
   pub sim-name : (b z : ℕ) → c .names * 2 + 2 ≤ length (m .names)
@@ -276,5 +277,5 @@ module _ {u : ℕ} {m : Memory} {c : Cursor} {s : Tables} (x : Sim u m c s) wher
     where
       entry : (q : ℕ) (z : Option Tree) → q ≢ r → Entry (landTo u m c) q z
           → Entry (land (put (m .rows) r colEnd (c .rows)) (c .rows) (m .store) u) q z
-      entry q none d h = let f : q * 12 + 11 ≢ r * 12 + 11 = omega arith in (h .0, rw getD-set-other (h .1))
+      entry q none d h = let f : q * rowWidth + colEnd ≢ r * rowWidth + colEnd = omega arith in (h .0, rw getD-set-other (h .1))
       entry q (some z) d h = own-ext (ext-put (landTo u m c) r colEnd (c .rows) o (omega arith)) z q h

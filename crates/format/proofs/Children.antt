@@ -19,6 +19,7 @@ use Rattle.format.proofs.Lands.{Valid, Meets, bare, named, long, Run, e
 use Rattle.format.proofs.Stages.{Ok, keep-ext, Stage, stage-put, stage-ext, stage-later, Val}
 use Rattle.format.proofs.Posts.{Post, stops, gets, post-then, post-map, post-by, wp-counted, wp-sealed}
 use Rattle.format.proofs.Heard.{Heard, text-heard}
+use Rattle.rows.specs.Memory.{colEnd}
 
 -- n children from row `start` on, read since the land was L₀
 pub record Loop (L₀ : Land) (g : Given) (start : ℕ) (m₀ : Memory) (c₀ : Cursor) (cs : List ℕ) (n : ℕ) (m : Memory) (c : Cursor) : Type 0 where
@@ -45,7 +46,7 @@ module _ {L₀ : Land} {g : Given} {start : ℕ} {m₀ : Memory} {c₀ : Cursor}
       }
 
   -- a column of the row
-  loop-put : (j v : ℕ) → 0 < j → j < 11 → Loop L₀ g start m₀ c₀ (set cs j v) n (withRows m (put (m .rows) (c₀ .rows) j v)) c
+  loop-put : (j v : ℕ) → 0 < j → j < colEnd → Loop L₀ g start m₀ c₀ (set cs j v) n (withRows m (put (m .rows) (c₀ .rows) j v)) c
   loop-put j v a b =
       let e = stage-ext (x .stage) j v (omega arith) in
       record { stage = stage-put (x .stage) j v a b; ext = ext-trans (x .ext) e; kids = run-ext e (x .kids) }
@@ -69,7 +70,7 @@ entries-post I one row col step (suc n) done m c bs i =
 abbrev pub Reads : Values → Type 0
 Reads value = (g : Given) (k : Key) (m : Memory) (c : Cursor) (bs : List ℕ) → Ok m c → Meets (landOf m c) g k → Post (λ x. Val g m c) (value k m c bs)
 
-module _ (value : Values) (reads : Reads value) (m₀ : Memory) (c₀ : Cursor) (cs : List ℕ) (L₀ : Land) (start j : ℕ) (low : 0 < j) (high : j < 11) where
+module _ (value : Values) (reads : Reads value) (m₀ : Memory) (c₀ : Cursor) (cs : List ℕ) (L₀ : Land) (start j : ℕ) (low : 0 < j) (high : j < colEnd) where
   -- after so many entries, of w children each
   abbrev pub Counted : Given → ℕ → ℕ → Memory → Cursor → Type 0
   Counted g w done = Loop L₀ g start m₀ c₀ (set cs j done) (w * done)

@@ -10,7 +10,7 @@ use borrow.Author.Tests.{le-ltb, lt-ltb}
 use lib.Dec.{ltb, leb·suc-suc}
 use Rattle.format.specs.Standard.{Tree, plain, array, object, objectVector, dictionary, Trees, nil, cons, Pairs, noPairs, pair, Entries}
 use Rattle.format.specs.Standard.{noEntries, entry, encodePlain, encode}
-use Rattle.format.specs.Writing.{Stream, done, deep, byte, _then_, these, bytesOf, isDeep}
+use Rattle.format.specs.Writing.{Stream, done, deep, byte, _then_, these, streamBytes, isDeep}
 use Rattle.format.specs.Writing.{emitTrees, emitPairs, emitValues, emitDynamic, emitEntries, emitIn, emit}
 use Rattle.format.proofs.Tests.{or-true, clash}
 use Rattle.format.proofs.Parts.{Piece, own, child, treeParts, pairParts, valueParts, dynamicParts, entryParts, parts}
@@ -66,14 +66,14 @@ unfolding these
 begins-these [] = whole
 begins-these (b ∷ bs) = goes b (begins-these bs)
 
-pub begins-whole : {x : Stream} {bs : List ℕ} → Begins x bs → isDeep x ≡ false → bytesOf x ≡ bs
-unfolding isDeep bytesOf
+pub begins-whole : {x : Stream} {bs : List ℕ} → Begins x bs → isDeep x ≡ false → streamBytes x ≡ bs
+unfolding isDeep streamBytes
 begins-whole whole e = refl
 begins-whole stops e = clash cc
 begins-whole (goes b g) e = ap (λ (l : List ℕ). b ∷ l) (begins-whole g e)
 
-pub begins-prefix : {x : Stream} {bs : List ℕ} → Begins x bs → (rest : List ℕ) × (bs ≡ bytesOf x ++ rest)
-unfolding bytesOf
+pub begins-prefix : {x : Stream} {bs : List ℕ} → Begins x bs → (rest : List ℕ) × (bs ≡ streamBytes x ++ rest)
+unfolding streamBytes
 begins-prefix whole = ([], refl)
 begins-prefix (stops {bs}) = (bs, refl)
 begins-prefix (goes b g) = let (rest, e) = begins-prefix g in (rest, ap (λ (l : List ℕ). b ∷ l) e)
@@ -147,10 +147,10 @@ emit-begins (suc left) t =
     rw (in-parts (emit left) t, ← encode-parts t) (parts-begin (emit left) (emit-begins left) (parts t))
 
 -- all of the encoding, where they don't stop
-pub emit-whole : (left : ℕ) (t : Tree) → isDeep (emit left t) ≡ false → bytesOf (emit left t) ≡ encode t
+pub emit-whole : (left : ℕ) (t : Tree) → isDeep (emit left t) ≡ false → streamBytes (emit left t) ≡ encode t
 emit-whole left t = begins-whole (emit-begins left t)
 
-pub emit-prefix : (left : ℕ) (t : Tree) → (rest : List ℕ) × (encode t ≡ bytesOf (emit left t) ++ rest)
+pub emit-prefix : (left : ℕ) (t : Tree) → (rest : List ℕ) × (encode t ≡ streamBytes (emit left t) ++ rest)
 emit-prefix left t = begins-prefix (emit-begins left t)
 
 either-less : (n a b : ℕ) → (ltb n a || ltb n b) ≡ ltb n (max a b)
@@ -212,8 +212,8 @@ nested-bytes (suc n) t u x a = let (y, e) = among-bytes (nested-bytes n) a in (y
 abbrev Stopped : Stream → List ℕ → Type 0
 Stopped s x = (isDeep s ≡ true) × Begins s x
 
-bytes-then : (x y : Stream) → isDeep x ≡ false → bytesOf (x then y) ≡ bytesOf x ++ bytesOf y
-unfolding isDeep bytesOf _then_
+bytes-then : (x y : Stream) → isDeep x ≡ false → streamBytes (x then y) ≡ streamBytes x ++ streamBytes y
+unfolding isDeep streamBytes _then_
 bytes-then done y e = refl
 bytes-then deep y e = clash cc
 bytes-then (byte b x) y e = ap (λ (l : List ℕ). b ∷ l) (bytes-then x y e)
@@ -227,10 +227,10 @@ module _ (f : Tree → Stream) (begins : (t : Tree) → Begins (f t) (encode t))
       let (e, g) = among-deep good a in
       (deep-either (emitPiece f p) (emitParts f ps) ∙ rw e (or-true (isDeep (emitPiece f p))), begins-then (piece-begins f begins p) g)
 
-  module _ (n : ℕ) (good : (t : Tree) → isDeep (f t) ≡ true → (u : Tree) × Nested n t u (bytesOf (f t))) where
+  module _ (n : ℕ) (good : (t : Tree) → isDeep (f t) ≡ true → (u : Tree) × Nested n t u (streamBytes (f t))) where
     piece-stop : (ps : List Piece) (d : Bool) (p : Piece) → isDeep (emitPiece f p) ≡ d → isDeep (emitPiece f p then emitParts f ps) ≡ true
-        → (isDeep (emitParts f ps) ≡ true → (u : Tree) × Among (Nested n) ps u (bytesOf (emitParts f ps)))
-        → (u : Tree) × Among (Nested n) (p ∷ ps) u (bytesOf (emitPiece f p then emitParts f ps))
+        → (isDeep (emitParts f ps) ≡ true → (u : Tree) × Among (Nested n) ps u (streamBytes (emitParts f ps)))
+        → (u : Tree) × Among (Nested n) (p ∷ ps) u (streamBytes (emitPiece f p then emitParts f ps))
     piece-stop ps true (own bs) g e more = let h = these-deep bs in clash cc
     piece-stop ps true (child t) g e more = let (u, h) = good t g in (u, rw (deep-then (f t) (emitParts f ps) g) (here h))
     piece-stop ps false p g e more =
@@ -238,7 +238,7 @@ module _ (f : Tree → Stream) (begins : (t : Tree) → Begins (f t) (encode t))
         let (u, h) = more d in
         (u, rw (bytes-then (emitPiece f p) (emitParts f ps) g, begins-whole (piece-begins f begins p) g) (later p h))
 
-    parts-stop : (ps : List Piece) → isDeep (emitParts f ps) ≡ true → (u : Tree) × Among (Nested n) ps u (bytesOf (emitParts f ps))
+    parts-stop : (ps : List Piece) → isDeep (emitParts f ps) ≡ true → (u : Tree) × Among (Nested n) ps u (streamBytes (emitParts f ps))
     unfolding emitParts isDeep
     parts-stop [] e = clash cc
     parts-stop (p ∷ ps) e = piece-stop ps (isDeep (emitPiece f p)) p refl e (parts-stop ps)
@@ -248,8 +248,8 @@ unfolding emit isDeep
 nested-deep zero t u x h = (refl, stops)
 nested-deep (suc n) t u x a = rw (in-parts (emit n) t) (among-deep (emit n) (emit-begins n) (nested-deep n) a)
 
-pub emit-stop : (left : ℕ) (t : Tree) → isDeep (emit left t) ≡ true → (u : Tree) × Nested left t u (bytesOf (emit left t))
-unfolding emit bytesOf
+pub emit-stop : (left : ℕ) (t : Tree) → isDeep (emit left t) ≡ true → (u : Tree) × Nested left t u (streamBytes (emit left t))
+unfolding emit streamBytes
 emit-stop zero t e = (t, (refl, refl))
 emit-stop (suc left) t e =
     rw (in-parts (emit left) t)

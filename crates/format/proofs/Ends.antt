@@ -30,6 +30,9 @@ use Rattle.format.proofs.Stage.{Keep, Val, Stage, objects-below, open-r
 use Rattle.format.proofs.Stage.{ends-val}
 use Rattle.format.proofs.Texts.{limit}
 use Rattle.format.proofs.Loops.{stage-used}
+use Rattle.rows.specs.Memory.{rowWidth}
+use Rattle.format.specs.Refusals as refusals
+use Rattle.rows.specs.Memory.{colKind, colKeyBegin, colKeySize, colBodyBegin, colBodySize, colClassMark, colFlag, colNumber, colCount, colCount2}
 
 -- ---- the end
 
@@ -65,20 +68,20 @@ opening b k = b ∷ k .mark ∷ k .begin ∷ k .size ∷ 0 ∷ 0 ∷ 0 ∷ 0 ∷
 
 -- rows with one more, which has the columns cs
 abbrev pub rowed : Memory → Cursor → List ℕ → Memory
-rowed m c cs = withRows m (sets (m .rows) (c .rows * 12) cs)
+rowed m c cs = withRows m (sets (m .rows) (c .rows * rowWidth) cs)
 
 abbrev pub rowedTo : Cursor → Cursor
 rowedTo c = rowsTo (taken c) (c .rows + 1)
 
-module _ {m : Memory} {c : Cursor} {s : Tables} (x : Sim (c .store) m c s) (l : suc (c .at) ≤ messageLimit) (f : c .rows * 12 + 12 ≤ length (m .rows)) where
-  row-sim : (cs : List ℕ) → length cs ≡ 12 → Sim (c .store) (rowed m c cs) (rowedTo c) s
+module _ {m : Memory} {c : Cursor} {s : Tables} (x : Sim (c .store) m c s) (l : suc (c .at) ≤ messageLimit) (f : c .rows * rowWidth + rowWidth ≤ length (m .rows)) where
+  row-sim : (cs : List ℕ) → length cs ≡ rowWidth → Sim (c .store) (rowed m c cs) (rowedTo c) s
   row-sim cs e = sim-row (sim-at x (suc (c .at)) l) cs e f
 
-  row-keep : (cs : List ℕ) → length cs ≡ 12 → Keep (c .store) m c (rowed m c cs) (rowedTo c)
+  row-keep : (cs : List ℕ) → length cs ≡ rowWidth → Keep (c .store) m c (rowed m c cs) (rowedTo c)
   row-keep cs e =
       record {
         rowsUp = omega arith;
-        rows = kept-sets (c .rows * 12) (c .rows * 12) cs (m .rows) (omega arith);
+        rows = kept-sets (c .rows * rowWidth) (c .rows * rowWidth) cs (m .rows) (omega arith);
         storeUp = omega arith;
         store =
             λ i l. refl;
@@ -89,10 +92,10 @@ module _ {m : Memory} {c : Cursor} {s : Tables} (x : Sim (c .store) m c s) (l : 
         atUp = omega arith;
       }
 
-  row-at : (cs : List ℕ) → length cs ≡ 12 → (j : ℕ) → j < 12 → cell (sets (m .rows) (c .rows * 12) cs) (c .rows) j ≡ getD cs j 0
-  row-at cs e j h = sets-at cs (m .rows) (c .rows * 12) j (omega arith) (omega arith)
+  row-at : (cs : List ℕ) → length cs ≡ rowWidth → (j : ℕ) → j < rowWidth → cell (sets (m .rows) (c .rows * rowWidth) cs) (c .rows) j ≡ getD cs j 0
+  row-at cs e j h = sets-at cs (m .rows) (c .rows * rowWidth) j (omega arith) (omega arith)
 
-  pub begins : (cs : List ℕ) → length cs ≡ 12 → getD cs 11 0 ≡ 0 → Stage false m c cs (c .store) (rowed m c cs) (rowedTo c) s
+  pub begins : (cs : List ℕ) → length cs ≡ rowWidth → getD cs colEnd 0 ≡ 0 → Stage false m c cs (c .store) (rowed m c cs) (rowedTo c) s
   begins cs e o =
       record {
         sim = row-sim cs e;
@@ -107,35 +110,35 @@ module _ {m : Memory} {c : Cursor} {s : Tables} (x : Sim (c .store) m c s) (l : 
       }
 
   -- a leaf that ends with its marker
-  pub leaf-val : (k : Key) (cs : List ℕ) (p : std.Plain) → length cs ≡ 12 → getD cs 11 0 ≡ c .rows + 1 → getD cs 4 0 + getD cs 5 0 ≡ 0
+  pub leaf-val : (k : Key) (cs : List ℕ) (p : std.Plain) → length cs ≡ rowWidth → getD cs colEnd 0 ≡ c .rows + 1 → getD cs 4 0 + getD cs 5 0 ≡ 0
       → getD cs 2 0 ≡ k .begin → getD cs 3 0 ≡ k .size → Is (std.plain p) (faceOf cs (m .store))
       → Val m c k tt (rowed m c cs) (rowedTo c) (std.plain p) s
   leaf-val k cs p e n z b d i =
       let L : Land = landTo (c .store) (rowed m c cs) (rowedTo c) in
-      let a : (j : ℕ) → j < 12 → at L (c .rows) j ≡ getD cs j 0 = row-at cs e in
+      let a : (j : ℕ) → j < rowWidth → at L (c .rows) j ≡ getD cs j 0 = row-at cs e in
       let g : face L (c .rows) ≡ faceOf cs (m .store) =
       rw (
-        a 0 (omega arith),
-        a 6 (omega arith),
-        a 7 (omega arith),
-        a 8 (omega arith),
-        a 9 (omega arith),
-        a 10 (omega arith),
+        a colKind (omega arith),
+        a colClassMark (omega arith),
+        a colFlag (omega arith),
+        a colNumber (omega arith),
+        a colCount (omega arith),
+        a colCount2 (omega arith),
         a 4
             (omega arith),
-        a 5 (omega arith),
+        a colBodySize (omega arith),
       ) in
       record {
         sim = row-sim cs e;
         keep = row-keep cs e;
         rep = own-rep (std.plain p) L (c .rows) (
-          rw (a 11 (omega arith), a 4 (omega arith), a 5 (omega arith))
+          rw (a colEnd (omega arith), a colBodyBegin (omega arith), a colBodySize (omega arith))
               (omega arith, omega arith, omega arith),
           subst (Is (std.plain p)) (sym g) i,
         );
-        fin = a 11 (omega arith) ∙ n;
-        keyBegin = a 2 (omega arith) ∙ b;
-        keySize = a 3 (omega arith) ∙ d;
+        fin = a colEnd (omega arith) ∙ n;
+        keyBegin = a colKeyBegin (omega arith) ∙ b;
+        keySize = a colKeySize (omega arith) ∙ d;
         more = omega arith;
       }
 
@@ -166,7 +169,7 @@ module _ {m₀ : Memory} {c₀ : Cursor} {b : ℕ} {k : Key} {m : Memory} {c : C
       let o = x .keep .objects i (omega arith) in
       let w = x .below i (omega arith) in
       let u = w .0 in
-      rw (o, x .keep .rows (getD (m₀ .objects) i 0 * 12 + 11) (omega arith)) (w .1)
+      rw (o, x .keep .rows (getD (m₀ .objects) i 0 * rowWidth + colEnd) (omega arith)) (w .1)
 
   refer-val : (i : ℕ) (t : Tree) → c₀ .at < c .at → i < c .objects → Own t (landOf m c) (getD (m .objects) i 0)
       → Val m₀ c₀ k tt (withRows m (put (put (put (m .rows) (c₀ .rows) 0 18) (c₀ .rows) 8 (getD (m .objects) i 0)) (c₀ .rows) colEnd (c .rows))) c t s
@@ -181,7 +184,7 @@ module _ {m₀ : Memory} {c₀ : Cursor} {b : ℕ} {k : Key} {m : Memory} {c : C
       let n = x .newer in
       let L : Land = landOf (withRows m (put (put (put (m .rows) (c₀ .rows) 0 18) (c₀ .rows) 8 g) (c₀ .rows) colEnd (c .rows))) c in
       let w : goal L (c₀ .rows) ≡ g = rw (ends-row x₂ 0 (omega arith), ends-row x₂ 8 (omega arith)) in
-      let q : at L g colEnd ≤ c₀ .rows = rw (e .cols g 11 (d .0, d .1) (omega arith)) (ended-before i h) in
+      let q : at L g colEnd ≤ c₀ .rows = rw (e .cols g colEnd (d .0, d .1) (omega arith)) (ended-before i h) in
       let v = ends-val x₂ k t refl refl l (rw (w, ends-col x₂) ((n, omega arith), before q, own-ext e t g o))
       (λ e. clash cc) in
       rw (free (c .store) t (x .sim)) at v
@@ -203,15 +206,15 @@ module _ {m₀ : Memory} {c₀ : Cursor} {b : ℕ} {k : Key} {m : Memory} {c : C
       ])
     where
       used : (g : ℕ) → g < c .rows → rowUsed (m .rows) c g ≡ true
-      used g h = let d = x .sim .rowsIn in rw (lt-ltb g (c .rows) h, le-leb (c .rows) (length (m .rows) / 12) (omega arith))
+      used g h = let d = x .sim .rowsIn in rw (lt-ltb g (c .rows) h, le-leb (c .rows) (length (m .rows) / rowWidth) (omega arith))
 
       entry : i < c .objects → (o : Option Tree) → Entry (landOf m c) (getD (m .objects) i 0) o
           → Agree whole (Val m₀ c₀ k) (decided (lift (λ R. withRows m R)
-          (cond (not (rowUsed (m .rows) c (getD (m .objects) i 0))) (stop 12 0 0)
-          (cond (ltb (c .rows) (cell (m .rows) (getD (m .objects) i 0) colEnd)) (stop 12 0 0)
+          (cond (not (rowUsed (m .rows) c (getD (m .objects) i 0))) (stop refusals.lost 0 0)
+          (cond (ltb (c .rows) (cell (m .rows) (getD (m .objects) i 0) colEnd)) (stop refusals.lost 0 0)
           (cond (eqb (cell (m .rows) (getD (m .objects) i 0) colEnd) 0) (stop 5 i (c .at))
           (cond (rowUsed (m .rows) c (c₀ .rows)) (give tt
-          (put (put (put (m .rows) (c₀ .rows) 0 18) (c₀ .rows) 8 (getD (m .objects) i 0)) (c₀ .rows) colEnd (c .rows)) c) (stop 12 0 0)))))) m bs)
+          (put (put (put (m .rows) (c₀ .rows) 0 18) (c₀ .rows) 8 (getD (m .objects) i 0)) (c₀ .rows) colEnd (c .rows)) c) (stop refusals.lost 0 0)))))) m bs)
           (std.finishedObject i o s (c .at) bs)
       entry h none z =
           rw (used (getD (m .objects) i 0) (z .0), z .1, le-ltb (c .rows) 0 (omega arith)) (both (lit≤ tt) (lit≤ tt))

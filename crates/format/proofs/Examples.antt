@@ -138,7 +138,21 @@ wanted (example bytes w) = outcome (a.read (answer w (λ n. n)) (loans w)) (drib
 -- ---- the proof over the list
 
 pub proved : map becomes examples ≡ map wanted examples
-unfolding u.partOf u.groups u.moreOf u.u29 w.sizeOf w.shapeOf z.integerOf z.columnOf z.ofColumn n.numberOf n.bytesOf n.digitOf y.finite y.refusedDate y.dateOf x.stepOf x.foldOf g.follow g.validText m.messageLimit m.openLimit m.loanFault m.zeroed m.putRow m.columnAt d.kindOf d.newRow d.marker d.closed d.numbered d.integerEnd d.dateEnd d.bodied d.classed d.objectClass d.vectorClass d.flagged d.counted d.grown d.oldText d.reserved d.stored d.judged d.textEnd d.entered d.referred d.traitHolds d.oldTrait d.named d.traitEnd d.sealedKey d.starred r.byte r.u29 r.number r.chars r.fill r.textOf r.text r.entries r.pair r.pairs r.names r.dynamics r.members r.inlined r.objectOf r.room r.charsOf r.filled r.newOf r.sizedOf r.marked r.value r.ended r.reading s.taskOf s.frameOf s.go s.entry s.pop s.keyed s.naming s.had s.textDone s.reservedFor s.stringSized s.roomy s.texting s.filling s.opened s.bodySized s.objectShaped s.worded s.numberDone s.flagDone s.rawGrown s.begun s.act s.step s.run s.end s.begin k.frameAt k.framesOf k.laid k.bodyAt k.bodyPurpose k.useAt k.modeOf k.useWork k.workOf k.stateOf k.numbered k.lentOf k.sameLent k.countsFit k.useFits k.modeFits k.sound k.soundStep k.afterStep k.byteStep t.byte t.bytes t.word t.chars t.entered t.textOf t.text t.opened t.shut t.finishedObject t.objectAt t.names t.newTraits t.given t.starred t.trees t.sealed t.pairsFrom t.pairs t.dynamics t.entries t.members t.objectOf t.newOf t.sizedOf t.marked t.value t.standard t.count t.countPairs t.countEntries t.nameBytes t.traitWord t.encodePlain t.arrayHead t.objectHead t.vectorHead t.dictionaryHead t.encode t.encodeTrees t.encodePairs t.encodeValues t.encodeDynamic t.encodeEntries v.col v.part v.home v.after v.treesAt v.pairsAt v.entriesAt v.node v.treeAt v.unfolded f.spanFits f.markFits f.columnsFit f.signedFits f.valueFits f.children f.closes f.gives f.givenIn f.given f.wellFormed f.numberWritable f.bodyWritable f.keyWritable f.writable f.testFrom f.tested e._then_ e.these e.bytesOf e.isDeep e.emitTrees e.emitPairs e.emitValues e.emitDynamic e.emitEntries e.emitIn e.emit e.settle e.writing a.beginCall a.runHeld a.takenBy a.feedCall a.endCall a.readCall a.writeCall ieee.odd ieee.ofFields ieee.ofBits ieee.toUnsigned
+unfolding u.partOf u.groups u.moreOf u.u29 w.sizeOf w.shapeOf z.integerOf z.columnOf z.ofColumn n.numberOf n.bytesOf n.digitOf y.finite y.refusedDate y.dateOf
+    x.stepOf x.foldOf g.follow g.validText m.messageLimit m.openLimit m.loanFault m.zeroed m.putRow m.columnAt d.kindOf d.newRow d.marker d.closed d.numbered
+    d.integerEnd d.dateEnd d.bodied d.classed d.objectClass d.vectorClass d.flagged d.counted d.grown d.oldText d.reserved d.stored d.judged d.textEnd d.entered
+    d.referred d.traitHolds d.oldTrait d.named d.traitEnd d.sealedKey d.starred r.byte r.u29 r.number r.chars r.fill r.textOf r.text r.entries r.pair r.pairs
+    r.names r.dynamics r.members r.inlined r.objectOf r.room r.charsOf r.filled r.newOf r.sizedOf r.marked r.value r.ended r.reading s.taskOf s.frameOf s.go
+    s.entry s.pop s.keyed s.naming s.had s.textDone s.reservedFor s.stringSized s.roomy s.texting s.filling s.opened s.bodySized s.objectShaped s.worded
+    s.numberDone s.flagDone s.rawGrown s.begun s.act s.step s.run s.end s.begin k.frameAt k.framesOf k.laid k.bodyPurpose k.modeOf k.useWork k.workOf k.stateOf
+    k.numbersOf k.lentOf k.sameLent k.countsFit k.useFits k.modeFits k.sound k.soundStep k.afterStep k.byteStep t.byte t.bytes t.word t.chars t.entered t.textOf
+    t.text t.opened t.shut t.finishedObject t.objectAt t.names t.newTraits t.given t.starred t.trees t.sealed t.pairsFrom t.pairs t.dynamics t.entries t.members
+    t.objectOf t.newOf t.sizedOf t.marked t.value t.standard t.count t.countPairs t.countEntries t.nameBytes t.traitWord t.encodePlain t.arrayHead t.objectHead
+    t.vectorHead t.dictionaryHead t.encode t.encodeTrees t.encodePairs t.encodeValues t.encodeDynamic t.encodeEntries v.col v.part v.home v.after v.treesAt
+    v.pairsAt v.entriesAt v.node v.treeAt v.unfolded f.spanFits f.markFits f.columnsFit f.signedFits f.valueFits f.children f.closes f.gives f.givenIn f.given
+    f.wellFormed f.numberWritable f.bodyWritable f.keyWritable f.writable f.testFrom f.tested e._then_ e.these e.streamBytes e.isDeep e.emitTrees e.emitPairs
+    e.emitValues e.emitDynamic e.emitEntries e.emitIn e.emit e.settle e.writing a.beginCall a.runHeld a.takenBy a.feedCall a.endCall a.readCall a.writeCall
+    ieee.odd ieee.ofFields ieee.ofBits ieee.toUnsigned
 proved = refl
 
 -- ---- the others: what waits, two deep messages, and the array of two "a" written
@@ -174,5 +188,19 @@ pub others :
     × (deeply (again 64 (0x09 ∷ 0x03 ∷ 0x01 ∷ []) (0x01 ∷ [])) ≡ Refused 9 0 193 0)
     × (a.writeCall (joined (row 9 keyless 0 0 0 0 2 3 ∷ row 6 keyless 0 1 0 0 0 2 ∷ row 6 keyless 0 1 0 0 0 3 ∷ [])) (0x61 ∷ []) (replicate 12 7)
     ≡ a.output (Bytes 9) (0x09 ∷ 0x05 ∷ 0x01 ∷ 0x06 ∷ 0x03 ∷ 0x61 ∷ 0x06 ∷ 0x03 ∷ 0x61 ∷ 7 ∷ 7 ∷ 7 ∷ []))
-unfolding u.partOf u.groups u.moreOf u.u29 w.sizeOf w.shapeOf z.integerOf z.columnOf z.ofColumn n.numberOf n.bytesOf n.digitOf y.finite y.refusedDate y.dateOf x.stepOf x.foldOf g.follow g.validText m.messageLimit m.openLimit m.loanFault m.zeroed m.putRow m.columnAt d.kindOf d.newRow d.marker d.closed d.numbered d.integerEnd d.dateEnd d.bodied d.classed d.objectClass d.vectorClass d.flagged d.counted d.grown d.oldText d.reserved d.stored d.judged d.textEnd d.entered d.referred d.traitHolds d.oldTrait d.named d.traitEnd d.sealedKey d.starred r.byte r.u29 r.number r.chars r.fill r.textOf r.text r.entries r.pair r.pairs r.names r.dynamics r.members r.inlined r.objectOf r.room r.charsOf r.filled r.newOf r.sizedOf r.marked r.value r.ended r.reading s.taskOf s.frameOf s.go s.entry s.pop s.keyed s.naming s.had s.textDone s.reservedFor s.stringSized s.roomy s.texting s.filling s.opened s.bodySized s.objectShaped s.worded s.numberDone s.flagDone s.rawGrown s.begun s.act s.step s.run s.end s.begin k.frameAt k.framesOf k.laid k.bodyAt k.bodyPurpose k.useAt k.modeOf k.useWork k.workOf k.stateOf k.numbered k.lentOf k.sameLent k.countsFit k.useFits k.modeFits k.sound k.soundStep k.afterStep k.byteStep t.byte t.bytes t.word t.chars t.entered t.textOf t.text t.opened t.shut t.finishedObject t.objectAt t.names t.newTraits t.given t.starred t.trees t.sealed t.pairsFrom t.pairs t.dynamics t.entries t.members t.objectOf t.newOf t.sizedOf t.marked t.value t.standard t.count t.countPairs t.countEntries t.nameBytes t.traitWord t.encodePlain t.arrayHead t.objectHead t.vectorHead t.dictionaryHead t.encode t.encodeTrees t.encodePairs t.encodeValues t.encodeDynamic t.encodeEntries v.col v.part v.home v.after v.treesAt v.pairsAt v.entriesAt v.node v.treeAt v.unfolded f.spanFits f.markFits f.columnsFit f.signedFits f.valueFits f.children f.closes f.gives f.givenIn f.given f.wellFormed f.numberWritable f.bodyWritable f.keyWritable f.writable f.testFrom f.tested e._then_ e.these e.bytesOf e.isDeep e.emitTrees e.emitPairs e.emitValues e.emitDynamic e.emitEntries e.emitIn e.emit e.settle e.writing a.beginCall a.runHeld a.takenBy a.feedCall a.endCall a.readCall a.writeCall ieee.odd ieee.ofFields ieee.ofBits ieee.toUnsigned
+unfolding u.partOf u.groups u.moreOf u.u29 w.sizeOf w.shapeOf z.integerOf z.columnOf z.ofColumn n.numberOf n.bytesOf n.digitOf y.finite y.refusedDate y.dateOf
+    x.stepOf x.foldOf g.follow g.validText m.messageLimit m.openLimit m.loanFault m.zeroed m.putRow m.columnAt d.kindOf d.newRow d.marker d.closed d.numbered
+    d.integerEnd d.dateEnd d.bodied d.classed d.objectClass d.vectorClass d.flagged d.counted d.grown d.oldText d.reserved d.stored d.judged d.textEnd d.entered
+    d.referred d.traitHolds d.oldTrait d.named d.traitEnd d.sealedKey d.starred r.byte r.u29 r.number r.chars r.fill r.textOf r.text r.entries r.pair r.pairs
+    r.names r.dynamics r.members r.inlined r.objectOf r.room r.charsOf r.filled r.newOf r.sizedOf r.marked r.value r.ended r.reading s.taskOf s.frameOf s.go
+    s.entry s.pop s.keyed s.naming s.had s.textDone s.reservedFor s.stringSized s.roomy s.texting s.filling s.opened s.bodySized s.objectShaped s.worded
+    s.numberDone s.flagDone s.rawGrown s.begun s.act s.step s.run s.end s.begin k.frameAt k.framesOf k.laid k.bodyPurpose k.modeOf k.useWork k.workOf k.stateOf
+    k.numbersOf k.lentOf k.sameLent k.countsFit k.useFits k.modeFits k.sound k.soundStep k.afterStep k.byteStep t.byte t.bytes t.word t.chars t.entered t.textOf
+    t.text t.opened t.shut t.finishedObject t.objectAt t.names t.newTraits t.given t.starred t.trees t.sealed t.pairsFrom t.pairs t.dynamics t.entries t.members
+    t.objectOf t.newOf t.sizedOf t.marked t.value t.standard t.count t.countPairs t.countEntries t.nameBytes t.traitWord t.encodePlain t.arrayHead t.objectHead
+    t.vectorHead t.dictionaryHead t.encode t.encodeTrees t.encodePairs t.encodeValues t.encodeDynamic t.encodeEntries v.col v.part v.home v.after v.treesAt
+    v.pairsAt v.entriesAt v.node v.treeAt v.unfolded f.spanFits f.markFits f.columnsFit f.signedFits f.valueFits f.children f.closes f.gives f.givenIn f.given
+    f.wellFormed f.numberWritable f.bodyWritable f.keyWritable f.writable f.testFrom f.tested e._then_ e.these e.streamBytes e.isDeep e.emitTrees e.emitPairs
+    e.emitValues e.emitDynamic e.emitEntries e.emitIn e.emit e.settle e.writing a.beginCall a.runHeld a.takenBy a.feedCall a.endCall a.readCall a.writeCall
+    ieee.odd ieee.ofFields ieee.ofBits ieee.toUnsigned
 others = (refl, refl, refl, refl)

@@ -39,6 +39,8 @@ use Rattle.format.specs.Step.{go, entry, pop, onward, keyed, members, na
 use Rattle.format.specs.Step.{filling, opened, bodySized, objectShaped, worded, numberDone, flagDone, rawGrown, begun, onPart, act, step, run, end}
 use Rattle.format.specs.Step.{beginAt, begin}
 use Rattle.format.proofs.Tests.{on-bool}
+use Rattle.rows.specs.Memory.{rowWidth}
+use Rattle.format.specs.Refusals as refusals
 
 -- ---- what is done after a reader
 
@@ -176,7 +178,7 @@ left astray ts = byte >>= (λ b. by (λ m c. lost))
 
 sem : State → List ℕ → Ended
 sem (over e) bs = e
-sem (none m) bs = refusal 12 0 0 m
+sem (none m) bs = refusal refusals.lost 0 0 m
 sem (wait x ts c m) bs = andThen (left x ts m c bs) (rest ts)
 
 -- ---- one law for every decision
@@ -191,7 +193,7 @@ sem-over : (e : Ended) (bs : List ℕ) → sem (over e) bs ≡ e
 unfolding sem
 sem-over e bs = refl
 
-sem-none : (m : Memory) (bs : List ℕ) → sem (none m) bs ≡ refusal 12 0 0 m
+sem-none : (m : Memory) (bs : List ℕ) → sem (none m) bs ≡ refusal refusals.lost 0 0 m
 unfolding sem
 sem-none m bs = refl
 
@@ -405,7 +407,7 @@ module _ (ts : List Frame) where
 abbrev parted : Part → Memory → (ℕ → Ended) → (ℕ → Ended) → Ended
 parted (More n) m more whole = more n
 parted (Whole n) m more whole = whole n
-parted Astray m more whole = refusal 12 0 0 m
+parted Astray m more whole = refusal refusals.lost 0 0 m
 
 sem-part : (p : Part) (m : Memory) (more whole : ℕ → State) (bs : List ℕ)
     → sem (onPart p m more whole) bs ≡ parted p m (λ n. sem (more n) bs) (λ n. sem (whole n) bs)
@@ -421,12 +423,12 @@ part-read Astray rd m c bs k = refl
 
 -- its last byte
 part-last : (n b : ℕ) (m : Memory) (more whole : ℕ → Ended)
-    → parted (partOf 0 n b) m more whole ≡ cond (leb (2 ^ 21) n) (refusal 12 0 0 m) (whole (n * 2 ^ 8 + b))
+    → parted (partOf 0 n b) m more whole ≡ cond (leb (2 ^ 21) n) (refusal refusals.lost 0 0 m) (whole (n * 2 ^ 8 + b))
 unfolding partOf
 part-last n b m more whole = on-bool (leb (2 ^ 21) n) (λ e. rw e) (λ e. rw e)
 
 digit-last : (n b : ℕ) (m : Memory) (more whole : ℕ → Ended)
-    → parted (digitOf 0 n b) m more whole ≡ cond (leb (2 ^ 56) n) (refusal 12 0 0 m) (whole (n * 2 ^ 8 + b))
+    → parted (digitOf 0 n b) m more whole ≡ cond (leb (2 ^ 56) n) (refusal refusals.lost 0 0 m) (whole (n * 2 ^ 8 + b))
 unfolding digitOf
 digit-last n b m more whole = on-bool (leb (2 ^ 56) n) (λ e. rw e) (λ e. rw e)
 
@@ -435,7 +437,7 @@ shut : (key : Key) (b : ℕ) (m : Memory) (c : Cursor) (k l : Cont ℕ) (bs : Li
     → andThen (by (onRows (marker key 0 b)) m c bs) k ≡ andThen (by (onRows (marker key 0 b)) m c bs) l
 unfolding marker
 shut key b m c k l bs =
-    on-bool (ltb (length (m .rows) / 12) (c .rows)) (λ e. rw e) (λ e. rw e (on-bool (ltb 0x11 b) (λ e. rw e) (λ e. rw e)))
+    on-bool (ltb (length (m .rows) / rowWidth) (c .rows)) (λ e. rw e) (λ e. rw e (on-bool (ltb 0x11 b) (λ e. rw e) (λ e. rw e)))
 
 pred-suc : (n : ℕ) → suc n - 1 ≡ n
 pred-suc n = omega arith

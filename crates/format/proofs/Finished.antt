@@ -23,6 +23,7 @@ use Rattle.format.proofs.RowTests.{Passes, Table, Writes, well-formed, 
 use Rattle.format.proofs.Stages.{Ok, Val}
 use Rattle.format.proofs.Posts.{Post, stops, gets}
 use Rattle.format.proofs.ValueRows.{value-reads}
+use Rattle.rows.specs.Memory.{rowWidth, colEnd}
 
 -- nothing is used yet
 ok-fresh : (m : Memory) → Ok m fresh
@@ -62,16 +63,16 @@ finished-table m bs c m′ e B l k =
     let a = v .ok .rowsIn in
     let s = v .ok .storeIn in
     let w = v .newer in
-    let R : List ℕ = take (c .rows * 12) (m′ .rows) in
+    let R : List ℕ = take (c .rows * rowWidth) (m′ .rows) in
     let q : rowsIn R ≡ c .rows = used-many c m′ a in
     let x : Ext (landOf m′ c) (land R (rowsIn R) B (c .store)) =
-    ext-kept (omega arith) (λ i h. getD-take (c .rows * 12) (m′ .rows) i 0 h) (omega arith) k s l in
+    ext-kept (omega arith) (λ i h. getD-take (c .rows * rowWidth) (m′ .rows) i 0 h) (omega arith) k s l in
     record {
       room = l;
       all = λ i h. sound-ext x (v .each i (omega arith) (omega arith));
       some = omega arith;
-      root = getD-take (c .rows * 12) (m′ .rows) 1 0 (omega arith) ∙ v .marked .mark;
-      last = getD-take (c .rows * 12) (m′ .rows) 11 0 (omega arith) ∙ v .fin ∙ sym q;
+      root = getD-take (c .rows * rowWidth) (m′ .rows) 1 0 (omega arith) ∙ v .marked .mark;
+      last = getD-take (c .rows * rowWidth) (m′ .rows) colEnd 0 (omega arith) ∙ v .fin ∙ sym q;
     }
 
 module _ (m : Memory) (bs : List ℕ) (c : Cursor) (m′ : Memory) (e : reading m bs ≡ finished c m′) where

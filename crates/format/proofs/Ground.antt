@@ -11,6 +11,7 @@ use Rattle.rows.specs.declared.Cursor.{Cursor}
 use Rattle.rows.specs.Memory.{Memory, cell, put, colEnd}
 use Rattle.format.specs.Unfold.{part}
 use Rattle.format.proofs.Lists.{Kept, part-kept}
+use Rattle.rows.specs.Memory.{rowWidth}
 
 -- the rows, how many are used, the store, and how far it is settled
 pub record Land : Type 0 where
@@ -39,12 +40,12 @@ Done L i = (i < at L i colEnd) × (at L i colEnd ≤ L .used)
 -- what is finished and settled in L is in L′
 pub record Ext (L L′ : Land) : Type 0 where
   pub up : L .used ≤ L′ .used
-  pub cols : (i j : ℕ) → Done L i → j < 12 → at L′ i j ≡ at L i j
+  pub cols : (i j : ℕ) → Done L i → j < rowWidth → at L′ i j ≡ at L i j
   pub fill : L .full ≤ L′ .full
   pub parts : (b z : ℕ) → b + z ≤ L .full → part (L′ .store) b z ≡ part (L .store) b z
 
 pub done-ext : {L L′ : Land} → Ext L L′ → (i : ℕ) → Done L i → Done L′ i
-done-ext x i h = let u = x .up in rw (x .cols i 11 h (omega arith)) (h .0, omega arith)
+done-ext x i h = let u = x .up in rw (x .cols i colEnd h (omega arith)) (h .0, omega arith)
 
 pub ext-same : (L : Land) → Ext L L
 ext-same L = record { up = omega arith; cols = λ i j d l. refl; fill = omega arith; parts = λ b z l. refl }
@@ -63,33 +64,33 @@ ext-trans x y =
     }
 
 -- the rows that are used and the settled store stay
-pub ext-kept : {R R′ B B′ : List ℕ} {n n′ u u′ : ℕ} → n ≤ n′ → Kept (n * 12) R R′ → u ≤ u′ → Kept u B B′ → u ≤ length B → u ≤ length B′
+pub ext-kept : {R R′ B B′ : List ℕ} {n n′ u u′ : ℕ} → n ≤ n′ → Kept (n * rowWidth) R R′ → u ≤ u′ → Kept u B B′ → u ≤ length B → u ≤ length B′
     → Ext (land R n B u) (land R′ n′ B′ u′)
 ext-kept {B = B} {B′ = B′} {u = u} a k b l f g =
     record {
       up = a;
-      cols = λ i j d h. (let p = d .0 in let q = d .1 in k (i * 12 + j) (omega arith));
+      cols = λ i j d h. (let p = d .0 in let q = d .1 in k (i * rowWidth + j) (omega arith));
       fill = b;
       parts = λ y z h. part-kept u B B′ y z l f g h;
     }
 
 -- a column of an open row is set
-pub ext-put : (L : Land) (r j v : ℕ) → at L r colEnd ≡ 0 → j < 12 → Ext L (land (put (L .rows) r j v) (L .used) (L .store) (L .full))
+pub ext-put : (L : Land) (r j v : ℕ) → at L r colEnd ≡ 0 → j < rowWidth → Ext L (land (put (L .rows) r j v) (L .used) (L .store) (L .full))
 ext-put L r j v o w =
     record {
       up = omega arith;
       cols = λ q i d l.
           (let f : q ≢ r = λ e. (let z : q < at L r colEnd = rw (← e) (d .0) in absurd (omega arith)) in
-          let g : q * 12 + i ≢ r * 12 + j = omega arith in
+          let g : q * rowWidth + i ≢ r * rowWidth + j = omega arith in
           simp getD-set-other);
       fill = omega arith;
       parts = λ b z l. refl;
     }
 
 -- the columns of row r with one of them set
-pub cell-put : (R cs : List ℕ) (r j v : ℕ) → length cs ≡ 12 → r * 12 + 12 ≤ length R → ((i : ℕ) → i < 12 → cell R r i ≡ getD cs i 0)
-    → (i : ℕ) → i < 12 → cell (put R r j v) r i ≡ getD (set cs j v) i 0
+pub cell-put : (R cs : List ℕ) (r j v : ℕ) → length cs ≡ rowWidth → r * rowWidth + rowWidth ≤ length R → ((i : ℕ) → i < rowWidth → cell R r i ≡ getD cs i 0)
+    → (i : ℕ) → i < rowWidth → cell (put R r j v) r i ≡ getD (set cs j v) i 0
 cell-put R cs r j v n h is i l = elim (ℕ-discrete i j) [
-  | yes q ↦ (let a : r * 12 + j < length R = omega arith in let b : j < length cs = omega arith in rw (q, getD-set-same, getD-set-same))
-  | no q ↦ (let a : r * 12 + i ≢ r * 12 + j = omega arith in rw (getD-set-other, getD-set-other) (is i l))
+  | yes q ↦ (let a : r * rowWidth + j < length R = omega arith in let b : j < length cs = omega arith in rw (q, getD-set-same, getD-set-same))
+  | no q ↦ (let a : r * rowWidth + i ≢ r * rowWidth + j = omega arith in rw (getD-set-other, getD-set-other) (is i l))
 ]

@@ -13,6 +13,7 @@ use Rattle.rows.specs.Memory.{Memory, memory, messageLimit, rowWidth, spanWidth
 use Rattle.format.specs.Decide.{Out, stop, give, lost, Decision, lift, onRows, inRow}
 use Rattle.format.specs.Reading.{ok, bad, Result, Reader, bind, _>>=_, ret, decided, by, byte}
 use Rattle.format.specs.Holds.{Room, _and_, nothing}
+use Rattle.format.specs.Refusals as refusals
 
 -- ---- room
 
@@ -43,7 +44,7 @@ pub record Within (a b : Room) : Type 0 where
 
 -- the refusals of a loan, of a limit and for want of room
 abbrev pub limit : ℕ → Bool
-limit n = eqb n 1 || eqb n 9 || eqb n 10 || eqb n 11
+limit n = eqb n refusals.badLoan || eqb n refusals.tooDeep || eqb n refusals.noRoom || eqb n refusals.tooLong
 
 abbrev pub Good : {A : Type 0} → (A → Type 0) → ℕ → Room → Memory → Cursor → List ℕ → Result A → Type 0
 Good P k n m c rest (ok a m′ c′ bs) = P a × (bs ≡ rest) × Uses k n m c m′ c′

@@ -26,6 +26,7 @@ use Rattle.format.specs.Decide.{grown, oldText, reserved, stored, judged
 use Rattle.format.specs.Numbers.{lentOf}
 use Rattle.format.proofs.Tests.{on-bool}
 use Rattle.format.proofs.Used.{Counts, RowIn, SpanIn, KeyIn, Roomy, Grows, grows-same}
+use Rattle.format.specs.Refusals as refusals
 
 -- ---- what a decision keeps
 
@@ -63,7 +64,7 @@ last-row n = omega arith
 
 -- what a decision at a cursor may give, where P is asked of the loans that it wrote, and Q of what it gives
 pub data Keeps {S A : Type 0} (P : S → Type 0) (Q : A → Cursor → Type 0) (lent : Lent) (c : Cursor) : Out S A → Type 0 where
-  refuses : {n told place : ℕ} → T (leb 1 n && leb n 12) → Keeps P Q lent c (stop n told place)
+  refuses : {n told place : ℕ} → T (leb refusals.badLoan n && leb n refusals.lost) → Keeps P Q lent c (stop n told place)
   gives : {a : A} {s : S} {d : Cursor} → P s → Moves lent c d → Q a d → Keeps P Q lent c (give a s d)
 
 module _ {S A : Type 0} {P : S → Type 0} {Q : A → Cursor → Type 0} {lent : Lent} {c : Cursor} {x y : Out S A} where

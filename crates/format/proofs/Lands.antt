@@ -14,6 +14,9 @@ use Rattle.format.specs.Standard.{isStar}
 use Rattle.format.specs.Unfold.{part}
 use Rattle.format.specs.RowTest.{isObject, signedFits, Given, keyless, keyed, filled, markOf, isFilled}
 use Rattle.format.proofs.Ground.{Land, at, Done, Ext, done-ext}
+use Rattle.rows.specs.Memory.{rowWidth}
+use Rattle.rows.specs.Kinds.{kindByteArray}
+use Rattle.rows.specs.Kinds.{kindXml}
 
 -- ---- spans
 
@@ -79,7 +82,7 @@ pub data Number : ℕ → ℕ → Type 0 where
 pub data Texts : ℕ → Type 0 where
   string : Texts 6
   xmlDocument : Texts 7
-  xml : Texts 11
+  xml : Texts kindXml
 
 -- the bytes of an entry
 pub data Raws : ℕ → ℕ → Type 0 where
@@ -91,7 +94,7 @@ pub data Raws : ℕ → ℕ → Type 0 where
 pub data Form (L : Land) (i : ℕ) : ℕ → List ℕ → Type 0 where
   number : {k v e : ℕ} → Number k v → e ≡ suc i → Form L i k (0 ∷ 0 ∷ 0 ∷ 0 ∷ v ∷ 0 ∷ 0 ∷ e ∷ [])
   text : {k b z e : ℕ} → Texts k → Valid L (span b z) → e ≡ suc i → Form L i k (b ∷ z ∷ 0 ∷ 0 ∷ 0 ∷ 0 ∷ 0 ∷ e ∷ [])
-  bytes : {b z e : ℕ} → Within L (span b z) → e ≡ suc i → Form L i 12 (b ∷ z ∷ 0 ∷ 0 ∷ 0 ∷ 0 ∷ 0 ∷ e ∷ [])
+  bytes : {b z e : ℕ} → Within L (span b z) → e ≡ suc i → Form L i kindByteArray (b ∷ z ∷ 0 ∷ 0 ∷ 0 ∷ 0 ∷ 0 ∷ e ∷ [])
   raw : {k w b z f n e : ℕ} → Raws k w → Within L (span b z) → z ≡ w * n → f ≤ 1 → e ≡ suc i → Form L i k (b ∷ z ∷ 0 ∷ f ∷ 0 ∷ n ∷ 0 ∷ e ∷ [])
   array : {x y mid e : ℕ} → Run L filled (suc i) mid x → Run L keyless mid e y → Form L i 9 (0 ∷ 0 ∷ 0 ∷ 0 ∷ 0 ∷ x ∷ y ∷ e ∷ [])
   object : {b z mark x y mid e : ℕ} → Class L Full mark (span b z) → Run L keyed (suc i) mid x → Run L filled mid e y
@@ -111,7 +114,7 @@ pub record Sound (L : Land) (i : ℕ) : Type 0 where
   pub top : at L i colEnd ≤ L .used
   pub meets : Meets L given key
   pub form : Form L i kind body
-  pub row : (j : ℕ) → j < 12 → at L i j ≡ getD (kind ∷ key .mark ∷ key .begin ∷ key .size ∷ body) j 0
+  pub row : (j : ℕ) → j < rowWidth → at L i j ≡ getD (kind ∷ key .mark ∷ key .begin ∷ key .size ∷ body) j 0
 
 -- ---- it lasts
 
@@ -131,10 +134,10 @@ module _ {L L′ : Land} (x : Ext L L′) where
   run-ext ends = ends
   run-ext (goes {k = k} {e = e} {n = n} d m r) =
       goes {e = e} {n = n} (done-ext x k d) (record {
-        mark = x .cols k 1 d (omega arith) ∙ m .mark;
-        size = λ t. rw (x .cols k 3 d (omega arith)) (m .size t);
+        mark = x .cols k colKeyMark d (omega arith) ∙ m .mark;
+        size = λ t. rw (x .cols k colKeySize d (omega arith)) (m .size t);
       })
-      (rw (x .cols k 11 d (omega arith)) (run-ext r))
+      (rw (x .cols k colEnd d (omega arith)) (run-ext r))
 
   pub class-full : {mark : ℕ} {s : Span} → Class L Full mark s → Class L′ Full mark s
   class-full classless = classless
@@ -154,7 +157,7 @@ module _ {L L′ : Land} (x : Ext L L′) where
   form-ext (vector c f a) = vector (class-other c) f (run-ext a)
   form-ext (dictionary f a) = dictionary f (run-ext a)
   form-ext (reference {t = t} l d h o e) =
-      reference l (done-ext x t d) (rw (x .cols t 11 d (omega arith)) h) (rw (x .cols t 0 d (omega arith)) o) e
+      reference l (done-ext x t d) (rw (x .cols t colEnd d (omega arith)) h) (rw (x .cols t colKind d (omega arith)) o) e
 
 -- children end behind where they begin
 pub run-up : {L : Land} {g : Given} {k e n : ℕ} → Run L g k e n → k ≤ e
@@ -183,7 +186,7 @@ form-up (reference l d h o e) = omega arith
 
 module _ {L : Land} {i : ℕ} (s : Sound L i) where
   pub sound-done : Done L i
-  sound-done = (rw (s .row 11 (omega arith)) (form-up (s .form)), s .top)
+  sound-done = (rw (s .row colEnd (omega arith)) (form-up (s .form)), s .top)
 
 pub sound-ext : {L L′ : Land} → Ext L L′ → {i : ℕ} → Sound L i → Sound L′ i
 sound-ext {L} {L′} x {i} s =
@@ -195,7 +198,7 @@ sound-ext {L} {L′} x {i} s =
       given = s .given;
       key = s .key;
       body = s .body;
-      top = rw (x .cols i 11 d (omega arith)) (omega arith);
+      top = rw (x .cols i colEnd d (omega arith)) (omega arith);
       meets = meets-ext x (s .meets);
       form = form-ext x (s .form);
       row = λ j l. x .cols i j d l ∙ s .row j l;

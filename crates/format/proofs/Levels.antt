@@ -11,6 +11,9 @@ use Rattle.format.specs.Unfold.{rowsIn, col, home, after, treesAt, pairs
 use Rattle.format.specs.RowTest.{children, tested, fine}
 use Rattle.format.proofs.Tested.{Row, tested-rows, Walk, done, next, Child, walk-start, walk-after, walk-long}
 use Rattle.format.proofs.Tested.{Home, itself, target, home-of, home-row, kind-is}
+use Rattle.rows.specs.Kinds.{kindByteArray}
+use Rattle.rows.specs.Kinds.{kindUndefined, kindNull, kindBoolean, kindInteger, kindDouble, kindString, kindXmlDocument, kindDate, kindArray, kindObject}
+use Rattle.rows.specs.Kinds.{kindXml, kindIntVector, kindUintVector, kindDoubleVector, kindObjectVector, kindDictionary, kindReference}
 
 module _ (R B : List ℕ) (rows : (i : ℕ) → i < rowsIn R → Row R B i) where
   -- ---- a row's tree looks only at its children
@@ -65,24 +68,24 @@ module _ (R B : List ℕ) (rows : (i : ℕ) → i < rowsIn R → Row R B i) wher
     unfolding node children
     node-same =
         kind-is (col R p colKind) 0 (omega arith) (λ e. rw e) λ l.
-        kind-is (col R p colKind) 1 l (λ e. rw e) λ l.
-        kind-is (col R p colKind) 2 l (λ e. rw e) λ l.
-        kind-is (col R p colKind) 3 l (λ e. rw e) λ l.
-        kind-is (col R p colKind) 4 l (λ e. rw e) λ l.
-        kind-is (col R p colKind) 5 l (λ e. rw e) λ l.
-        kind-is (col R p colKind) 6 l (λ e. rw e) λ l.
-        kind-is (col R p colKind) 7 l (λ e. rw e) λ l.
-        kind-is (col R p colKind) 8 l (λ e. rw e) λ l.
-        kind-is (col R p colKind) 9 l (λ e. (let t = two-same (rw e) in rw (e, t .0, t .1))) λ l.
-        kind-is (col R p colKind) 10 l (λ e. (let t = two-same (rw e) in rw (e, t .0, t .2))) λ l.
-        kind-is (col R p colKind) 11 l (λ e. rw e) λ l.
-        kind-is (col R p colKind) 12 l (λ e. rw e) λ l.
-        kind-is (col R p colKind) 13 l (λ e. rw e) λ l.
-        kind-is (col R p colKind) 14 l (λ e. rw e) λ l.
-        kind-is (col R p colKind) 15 l (λ e. rw e) λ l.
-        kind-is (col R p colKind) 16 l (λ e. rw (e, one-same (rw e))) λ l.
-        kind-is (col R p colKind) 17 l (λ e. rw (e, both-same (rw e))) λ l.
-        kind-is (col R p colKind) 18 l (λ e. rw e) λ l.
+        kind-is (col R p colKind) kindUndefined l (λ e. rw e) λ l.
+        kind-is (col R p colKind) kindNull l (λ e. rw e) λ l.
+        kind-is (col R p colKind) kindBoolean l (λ e. rw e) λ l.
+        kind-is (col R p colKind) kindInteger l (λ e. rw e) λ l.
+        kind-is (col R p colKind) kindDouble l (λ e. rw e) λ l.
+        kind-is (col R p colKind) kindString l (λ e. rw e) λ l.
+        kind-is (col R p colKind) kindXmlDocument l (λ e. rw e) λ l.
+        kind-is (col R p colKind) kindDate l (λ e. rw e) λ l.
+        kind-is (col R p colKind) kindArray l (λ e. (let t = two-same (rw e) in rw (e, t .0, t .1))) λ l.
+        kind-is (col R p colKind) kindObject l (λ e. (let t = two-same (rw e) in rw (e, t .0, t .2))) λ l.
+        kind-is (col R p colKind) kindXml l (λ e. rw e) λ l.
+        kind-is (col R p colKind) kindByteArray l (λ e. rw e) λ l.
+        kind-is (col R p colKind) kindIntVector l (λ e. rw e) λ l.
+        kind-is (col R p colKind) kindUintVector l (λ e. rw e) λ l.
+        kind-is (col R p colKind) kindDoubleVector l (λ e. rw e) λ l.
+        kind-is (col R p colKind) kindObjectVector l (λ e. rw (e, one-same (rw e))) λ l.
+        kind-is (col R p colKind) kindDictionary l (λ e. rw (e, both-same (rw e))) λ l.
+        kind-is (col R p colKind) kindReference l (λ e. rw e) λ l.
         absurd (omega (arith, rows p h .high))
 
   -- ---- what falls from a row to the rows that its children stand for

@@ -4,6 +4,7 @@ pub mod Lists
 pub mod Memories
 pub mod Columns
 pub mod Ground
+pub mod Lengths
 -- The worked examples, and that each call has one outcome.
 pub mod Examples
 pub mod Unique

@@ -27,6 +27,7 @@ use Rattle.format.proofs.Tables.{Names, names-ext, Sim}
 use Rattle.format.proofs.Stage.{Keep, Val, Stage, open-row, stage-put, stage-keep}
 use Rattle.format.proofs.Texts.{limit, text-then, text-size}
 use Rattle.format.proofs.Naming.{lasting, held, nothing}
+use Rattle.rows.specs.Memory.{rowWidth}
 
 -- ---- what is finished stays
 
@@ -39,7 +40,7 @@ keep-ext {m} {c} {s} {m′} {c′} x y k =
 
 -- a value that stands in row k, and ends at row n, later
 later : {L L′ : Land} (t : Tree) (k n : ℕ) → Ext L L′ → Rep t L k → at L k colEnd ≡ n → Rep t L′ k × (at L′ k colEnd ≡ n)
-later t k n x h e = (rep-ext x t k h, x .cols k 11 (h .0) (omega arith) ∙ e)
+later t k n x h e = (rep-ext x t k h, x .cols k colEnd (h .0) (omega arith) ∙ e)
 
 -- ---- counting
 
@@ -47,11 +48,11 @@ later t k n x h e = (rep-ext x t k h, x .cols k 11 (h .0) (omega arith) ∙ e)
 pub stage-used : {o : Bool} {m₀ : Memory} {c₀ : Cursor} {cs : List ℕ} {u : ℕ} {m : Memory} {c : Cursor} {s : Tables} → Stage o m₀ c₀ cs u m c s
     → rowUsed (m .rows) c (c₀ .rows) ≡ true
 stage-used {c₀ = c₀} {m = m} {c = c} x = let a = x .sim .rowsIn in
-    rw (lt-ltb (c₀ .rows) (c .rows) (x .newer), le-leb (c .rows) (length (m .rows) / 12) (omega arith))
+    rw (lt-ltb (c₀ .rows) (c .rows) (x .newer), le-leb (c .rows) (length (m .rows) / rowWidth) (omega arith))
 
 module _ {whole : List ℕ} {A B : Type 0} {Q : A → Memory → Cursor → B → Tables → Type 0} {o : Bool} {m₀ : Memory} {c₀ : Cursor} (cs : List ℕ) where
   pub count-then : (j done u : ℕ) (m : Memory) (c : Cursor) (s : Tables) (bs : List ℕ) (f : Unit → Reader A) {y : ResultOf Tables ℕ B}
-      → Stage o m₀ c₀ (set cs j done) u m c s → j < 11 → done < messageLimit
+      → Stage o m₀ c₀ (set cs j done) u m c s → j < colEnd → done < messageLimit
       → ((R : List ℕ) → Stage o m₀ c₀ (set cs j (suc done)) u (withRows m R) c s → Ext (landTo u m c) (landTo u (withRows m R) c)
       → Agree whole Q (f tt (withRows m R) c bs) y) → Agree whole Q (bind (decided (onRows (counted (c₀ .rows) j done) m c) m bs) f) y
   unfolding counted
@@ -84,7 +85,7 @@ module _ (whole : List ℕ) (octets : Bytes whole) (value : Values) (tree : Std 
       → (k : Key) (cs : List ℕ) (j done : ℕ) (m : Memory) (c : Cursor) (s : Tables) (bs : List ℕ) (more : Reader Unit) (others : Std B)
       → ((t : Tree) (b : B) (L : Land) (n e : ℕ) → Ext (landOf m c) L → Rep t L (c .rows) → at L (c .rows) colEnd ≡ n
       → at L (c .rows) colKeyBegin ≡ k .begin → at L (c .rows) colKeySize ≡ k .size → P b L n e → P (make t b) L (c .rows) e)
-      → Stage true m₀ c₀ (set cs j done) (c .store) m c s → j < 11 → done < c .at → low ≤ c .at → Left whole (c .at) bs
+      → Stage true m₀ c₀ (set cs j done) (c .store) m c s → j < colEnd → done < c .at → low ≤ c .at → Left whole (c .at) bs
       → ((m₁ : Memory) (c₁ : Cursor) (s₁ : Tables) (bs : List ℕ) → Stage true m₀ c₀ (set cs j (suc done)) (c₁ .store) m₁ c₁ s₁
       → Ext (landOf m c) (landOf m₁ c₁) → c .names ≤ c₁ .names → Kept (c .names * 2) (m .names) (m₁ .names) → c .at < c₁ .at
       → Left whole (c₁ .at) bs → Agree whole (λ x m′ c′ b s′. Loop m₀ c₀ (set cs j (suc done + size b)) (P b) m₁ c₁ m′ c′ s′) (more m₁ c₁ bs)
@@ -103,8 +104,8 @@ module _ (whole : List ℕ) (octets : Bytes whole) (value : Values) (tree : Std 
       let e : suc done + size b ≡ done + size (make t b) = omega arith in
       let e₃ = ext-trans e₂ (r .ext) in
       let z = later t (c .rows) (c₁ .rows) e₃ (g .rep) (g .fin) in
-      let k₂ = e₃ .cols (c .rows) 2 (g .rep .0) (omega arith) ∙ g .keyBegin in
-      let k₃ = e₃ .cols (c .rows) 3 (g .rep .0) (omega arith) ∙ g .keySize in
+      let k₂ = e₃ .cols (c .rows) colKeyBegin (g .rep .0) (omega arith) ∙ g .keyBegin in
+      let k₃ = e₃ .cols (c .rows) colKeySize (g .rep .0) (omega arith) ∙ g .keySize in
       record {
         stage = rw e at (r .stage);
         ext = ext-trans e₁ e₃;
@@ -114,7 +115,7 @@ module _ (whole : List ℕ) (octets : Bytes whole) (value : Values) (tree : Std 
 
   -- items
   pub trees-alike : (n : ℕ) (cs : List ℕ) (j done : ℕ) (m : Memory) (c : Cursor) (s : Tables) (bs : List ℕ)
-      → Stage true m₀ c₀ (set cs j done) (c .store) m c s → j < 11 → done < c .at → low ≤ c .at → Left whole (c .at) bs
+      → Stage true m₀ c₀ (set cs j done) (c .store) m c s → j < colEnd → done < c .at → low ≤ c .at → Left whole (c .at) bs
       → Agree whole (λ x m′ c′ ts s′. Loop m₀ c₀ (set cs j (done + count ts)) (RepT ts) m c m′ c′ s′)
       (our.entries (λ done. value noKey) (c₀ .rows) j n done m c bs) (std.trees tree n s (c .at) bs)
   unfolding our.entries std.trees count
@@ -127,7 +128,7 @@ module _ (whole : List ℕ) (octets : Bytes whole) (value : Values) (tree : Std 
 
   -- entries of a dictionary: two values each
   pub entries-alike : (n : ℕ) (cs : List ℕ) (j done : ℕ) (m : Memory) (c : Cursor) (s : Tables) (bs : List ℕ)
-      → Stage true m₀ c₀ (set cs j done) (c .store) m c s → j < 11 → done < c .at → low ≤ c .at → Left whole (c .at) bs
+      → Stage true m₀ c₀ (set cs j done) (c .store) m c s → j < colEnd → done < c .at → low ≤ c .at → Left whole (c .at) bs
       → Agree whole (λ x m′ c′ es s′. Loop m₀ c₀ (set cs j (done + countEntries es)) (RepE es) m c m′ c′ s′)
       (our.entries (λ done. value noKey >> value noKey) (c₀ .rows) j n done m c bs) (std.entries tree n s (c .at) bs)
   unfolding our.entries std.entries countEntries
@@ -158,7 +159,7 @@ module _ (whole : List ℕ) (octets : Bytes whole) (value : Values) (tree : Std 
 
   -- sealed members: each has its name for a key
   pub sealed-alike : (xs : List (List ℕ)) (first : ℕ) (cs : List ℕ) (j done : ℕ) (m : Memory) (c : Cursor) (s : Tables) (bs : List ℕ)
-      → Stage true m₀ c₀ (set cs j done) (c .store) m c s → j < 11 → done < c .at → low ≤ c .at → Left whole (c .at) bs
+      → Stage true m₀ c₀ (set cs j done) (c .store) m c s → j < colEnd → done < c .at → low ≤ c .at → Left whole (c .at) bs
       → Names (m .store) (c .store) (m .names) (first + done) xs → first + done + length xs ≤ c .names
       → Agree whole (λ x m′ c′ ps s′. Loop m₀ c₀ (set cs j (done + countPairs ps)) (RepP ps) m c m′ c′ s′)
       (our.entries (λ done. by (looking (λ m. sealedKey (first + done) (m .names))) >>= value) (c₀ .rows) j (length xs) done m c bs)
@@ -186,7 +187,7 @@ module _ (whole : List ℕ) (octets : Bytes whole) (value : Values) (tree : Std 
 
   -- a pair whose key is read, the others after it
   one-pair : (cs : List ℕ) (j done : ℕ) (m : Memory) (c : Cursor) (s : Tables) (bs : List ℕ) (more : Reader Unit) (others : Std Pairs) (sp : Span)
-      (z : ℕ) (xs : List ℕ) → Stage true m₀ c₀ (set cs j done) (c .store) m c s → j < 11 → done < c .at → low ≤ c .at → Left whole (c .at) bs
+      (z : ℕ) (xs : List ℕ) → Stage true m₀ c₀ (set cs j done) (c .store) m c s → j < colEnd → done < c .at → low ≤ c .at → Left whole (c .at) bs
       → Text (m .store) (c .store) (sp .begin) (sp .size) xs → length xs ≡ z
       → ((m₁ : Memory) (c₁ : Cursor) (s₁ : Tables) (bs : List ℕ) → Stage true m₀ c₀ (set cs j (suc done)) (c₁ .store) m₁ c₁ s₁ → c .at < c₁ .at
       → Left whole (c₁ .at) bs → Agree whole (λ x m′ c′ ps s′. Loop m₀ c₀ (set cs j (suc done + countPairs ps)) (RepP ps) m₁ c₁ m′ c′ s′)
@@ -204,7 +205,7 @@ module _ (whole : List ℕ) (octets : Bytes whole) (value : Values) (tree : Std 
 
   -- pairs up to an empty key
   pub pairs-alike : (most f : ℕ) (cs : List ℕ) (j done : ℕ) (m : Memory) (c : Cursor) (s : Tables) (bs : List ℕ)
-      → Stage true m₀ c₀ (set cs j done) (c .store) m c s → j < 11 → done < c .at → low ≤ c .at → done + most ≡ messageLimit
+      → Stage true m₀ c₀ (set cs j done) (c .store) m c s → j < colEnd → done < c .at → low ≤ c .at → done + most ≡ messageLimit
       → length whole < f + c .at → Left whole (c .at) bs
       → Agree whole (λ x m′ c′ ps s′. Loop m₀ c₀ (set cs j (done + countPairs ps)) (RepP ps) m c m′ c′ s′)
       (our.pairs value (c₀ .rows) j most done m c bs) (std.pairs tree f s (c .at) bs)

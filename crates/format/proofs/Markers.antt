@@ -12,14 +12,16 @@ use Rattle.format.specs.Decide as decide
 use Rattle.format.specs.Decide.{four, eight, newRow, kindOf}
 use Rattle.format.specs.RowTest.{isObject}
 use Rattle.format.proofs.Tests.{both}
+use Rattle.rows.specs.Kinds.{kindByteArray}
+use Rattle.rows.specs.Kinds.{kindXml}
 
 -- a body of a kind
 pub data Opens : decide.Body → ℕ → Type 0 where
   ofXmlDocument : Opens decide.xml 7
   ofDate : Opens decide.date 8
   ofArray : Opens decide.array 9
-  ofXml : Opens decide.xml 11
-  ofBytes : Opens decide.bytes 12
+  ofXml : Opens decide.xml kindXml
+  ofBytes : Opens decide.bytes kindByteArray
   ofInts : Opens (decide.raw four) 13
   ofUints : Opens (decide.raw four) 14
   ofDoubles : Opens (decide.raw eight) 15

@@ -23,6 +23,7 @@ use Rattle.format.proofs.Tables.{Sim}
 use Rattle.format.proofs.Stage.{Val}
 use Rattle.format.proofs.Unfolding.{View, rep-unfolds}
 use Rattle.format.proofs.Values.{value-alike}
+use Rattle.format.specs.Refusals as refusals
 
 -- ---- what is said of a reading and the standard's
 
@@ -33,10 +34,10 @@ usedRows c m = take (c .rows * rowWidth) (m .rows)
 abbrev pub usedStore : Cursor → Memory → List ℕ
 usedStore c m = take (c .store) (m .store)
 
-pub used-many : (c : Cursor) (m : Memory) → c .rows * 12 ≤ length (m .rows) → rowsIn (usedRows c m) ≡ c .rows
+pub used-many : (c : Cursor) (m : Memory) → c .rows * rowWidth ≤ length (m .rows) → rowsIn (usedRows c m) ≡ c .rows
 used-many c m h =
-    let e : length (usedRows c m) ≡ c .rows * 12 = length-take-le (c .rows * 12) (m .rows) h in
-    let q : rowsIn (usedRows c m) ≡ c .rows * 12 / 12 = ap (λ z. z / 12) e in
+    let e : length (usedRows c m) ≡ c .rows * rowWidth = length-take-le (c .rows * rowWidth) (m .rows) h in
+    let q : rowsIn (usedRows c m) ≡ c .rows * rowWidth / rowWidth = ap (λ z. z / rowWidth) e in
     omega arith
 
 -- how a reading of bs and the standard's end
@@ -47,7 +48,7 @@ pub data Accord (bs : List ℕ) : Ended → ResultOf Tables ℕ Tree → Type 0 
   -- both refuse alike, by a number of the standard's
   refuses : {n told place : ℕ} {m : Memory} {s : Tables} → 2 ≤ n → n ≤ 8 → Accord bs (refused n told place m) (bad n told place s)
   -- a limit or a loan is met
-  limited : {n told place : ℕ} {m : Memory} {y : ResultOf Tables ℕ Tree} → 9 ≤ n → n ≤ 11 → Accord bs (refused n told place m) y
+  limited : {n told place : ℕ} {m : Memory} {y : ResultOf Tables ℕ Tree} → refusals.tooDeep ≤ n → n ≤ refusals.tooLong → Accord bs (refused n told place m) y
 
 -- ---- a fresh reading
 
@@ -79,7 +80,7 @@ view {m} {c} {s} x B h k =
     let n = used-many c m (x .rowsIn) in
     record {
       many = n;
-      cols = λ r j l i. rw (n, lt-ltb r (c .rows) l) (getD-take (c .rows * 12) (m .rows) (r * 12 + j) 0 (omega arith));
+      cols = λ r j l i. rw (n, lt-ltb r (c .rows) l) (getD-take (c .rows * rowWidth) (m .rows) (r * rowWidth + j) 0 (omega arith));
       texts = λ b z l. part-kept (c .store) (m .store) B b z k (x .storeIn) h l;
     }
 
@@ -104,16 +105,16 @@ unfolding reading
 reading-means m bs h e = rw e (accord (zeroed m) bs _ _ (read-alike (zeroed m) bs h))
 
 -- whatever the loans, a reading never says 12
-pub never-lost : (m : Memory) (bs : List ℕ) → Bytes bs → (n told place : ℕ) (m′ : Memory) → reading m bs ≡ refused n told place m′ → n ≢ 12
+pub never-lost : (m : Memory) (bs : List ℕ) → Bytes bs → (n told place : ℕ) (m′ : Memory) → reading m bs ≡ refused n told place m′ → n ≢ refusals.lost
 unfolding reading
 never-lost m bs h n told place m′ = by-fault (faultOf m)
   where
-    met : (e : Ended) (y : ResultOf Tables ℕ Tree) → Accord bs e y → e ≡ refused n told place m′ → n ≢ 12
+    met : (e : Ended) (y : ResultOf Tables ℕ Tree) → Accord bs e y → e ≡ refused n told place m′ → n ≢ refusals.lost
     met e y (reads p q r s) d = clash cc
     met e y (refuses {n = k} p q) d = let z : k ≡ n = cc in λ w. omega arith
     met e y (limited {n = k} p q) d = let z : k ≡ n = cc in λ w. omega arith
 
-    by-fault : (k : ℕ) → unlessFault k m (ended (our.value openLimit noKey (zeroed m) fresh bs)) ≡ refused n told place m′ → n ≢ 12
+    by-fault : (k : ℕ) → unlessFault k m (ended (our.value openLimit noKey (zeroed m) fresh bs)) ≡ refused n told place m′ → n ≢ refusals.lost
     by-fault zero d = met _ _ (accord (zeroed m) bs _ _ (read-alike (zeroed m) bs h)) d
     by-fault (suc k) d = let z : 1 ≡ n = cc in λ w. omega arith
 
@@ -133,7 +134,7 @@ pub data Kept-to (e : Ended) : ResultOf Tables ℕ Tree → Type 0 where
   finishes : {t : Tree} {s : Tables} {p : ℕ} {rest : List ℕ} (c : Cursor) (m′ : Memory) → e ≡ finished c m′ → c .at ≡ p
       → unfolded (usedRows c m′) (usedStore c m′) 0 ≡ t → Kept-to e (ok t s p rest)
   stops : {n told place : ℕ} {s : Tables} (m′ : Memory) → e ≡ refused n told place m′ → Kept-to e (bad n told place s)
-  meets : {y : ResultOf Tables ℕ Tree} (n told place : ℕ) (m′ : Memory) → 9 ≤ n → n ≤ 11 → e ≡ refused n told place m′ → Kept-to e y
+  meets : {y : ResultOf Tables ℕ Tree} (n told place : ℕ) (m′ : Memory) → refusals.tooDeep ≤ n → n ≤ refusals.tooLong → e ≡ refused n told place m′ → Kept-to e y
 
 module _ (m : Memory) (bs : List ℕ) (octets : Bytes bs) (accepted : faultOf m ≡ 0) where
   -- what is finished is the standard's tree
@@ -158,11 +159,11 @@ module _ (m : Memory) (bs : List ℕ) (octets : Bytes bs) (accepted : faultOf m 
       met e y (limited p q) d = clash cc
 
   -- what is refused, but by a limit or a loan, the standard refuses so
-  pub refused-means : (n told place : ℕ) (m′ : Memory) → reading m bs ≡ refused n told place m′ → n ≢ 9 → n ≢ 10 → n ≢ 11
+  pub refused-means : (n told place : ℕ) (m′ : Memory) → reading m bs ≡ refused n told place m′ → n ≢ refusals.tooDeep → n ≢ refusals.noRoom → n ≢ refusals.tooLong
       → (s : Tables) × (standard bs ≡ bad n told place s)
   refused-means n told place m′ = met (reading m bs) (standard bs) (reading-means m bs octets accepted)
     where
-      met : (e : Ended) (y : ResultOf Tables ℕ Tree) → Accord bs e y → e ≡ refused n told place m′ → n ≢ 9 → n ≢ 10 → n ≢ 11
+      met : (e : Ended) (y : ResultOf Tables ℕ Tree) → Accord bs e y → e ≡ refused n told place m′ → n ≢ refusals.tooDeep → n ≢ refusals.noRoom → n ≢ refusals.tooLong
           → (s : Tables) × (y ≡ bad n told place s)
       met e y (reads p q r w) d a b c = clash cc
       met e y (refuses {n = k} {told = u} {place = v} {s = s} p q) d a b c =

@@ -14,7 +14,7 @@ use Rattle.format.specs.declared.Answer.the-variants.{Waiting, Finished,
 use Rattle.format.specs.declared.Lent.{Lent}
 use Rattle.format.specs.Reading.{Ended, finished, refused}
 use Rattle.format.specs.Step.{State, wait, over, none, run, end, begin}
-use Rattle.format.specs.Numbers.{Numbers, Held, held, lentOf, stateOf, numbered, memoryOf, afterStep, byteStep}
+use Rattle.format.specs.Numbers.{Numbers, Held, held, lentOf, stateOf, numbersOf, memoryOf, afterStep, byteStep}
 use Rattle.format.specs.Answers.{Fed, fed, answerOf, answered, blank, beginCall, runHeld, costFrom, stateIn, takenBy, feedCall, endOf, endCall}
 use Rattle.format.specs.Answers.{Read, read, readOf, readCall}
 use Rattle.format.proofs.Tests.{on-bool}
@@ -22,6 +22,7 @@ use Rattle.format.proofs.Feeding.{feeding}
 use Rattle.format.proofs.Cuts.{joined}
 use Rattle.format.proofs.Along.{Good, waits, finishes, declines, takes}
 use Rattle.format.proofs.Shows.{Shows, shows-run, shows-begin, taken-run, memory-of}
+use Rattle.format.specs.Refusals as refusals
 
 -- ---- bytes after bytes, whatever the numbers and the loans
 
@@ -41,7 +42,7 @@ cost-most (none m) after = omega arith
 cost-most (wait x ts c m) (wait y us d n) = omega arith
 cost-most (wait x ts c m) (over (finished d n)) = omega arith
 cost-most (wait x ts c m) (over (refused number told place n)) =
-    on-bool (eqb number 11 || eqb number 12) (λ e. rw e (omega arith)) (λ e. rw e (omega arith))
+    on-bool (eqb number refusals.tooLong || eqb number refusals.lost) (λ e. rw e (omega arith)) (λ e. rw e (omega arith))
 cost-most (wait x ts c m) (none n) = omega arith
 
 taken-most : (h : Held) (bs : List ℕ) → takenBy h bs ≤ length bs
@@ -172,7 +173,7 @@ unread (read a m) = read (untaken a) m
 
 -- what waits is refused by 2
 end-wait : (n : Numbers) (at : ℕ) (k : Memory) → endRead (answered (afterStep n (over (refused 2 0 at (zeroed k)))) 0) ≡ read (Refused 2 0 at 0) (zeroed k)
-unfolding afterStep numbered stateOf
+unfolding afterStep numbersOf stateOf
 end-wait n at k = refl
 
 -- what has ended keeps its answer and its loans
@@ -247,7 +248,7 @@ state-relent : (n : Numbers) (m k : Memory) → stateOf n k ≡ relent (stateOf 
 unfolding stateOf
 state-relent n m k = on-bool (eqb (n .head .status) 1) (λ e. rw e) (λ e. rw e
     (on-bool (eqb (n .head .status) 2) (λ e. rw e) (λ e. rw e
-    (on-bool (eqb (n .head .status) 3 && leb 1 (n .head .number) && leb (n .head .number) 12) (λ e. rw e) (λ e. rw e)))))
+    (on-bool (eqb (n .head .status) 3 && leb refusals.badLoan (n .head .number) && leb (n .head .number) refusals.lost) (λ e. rw e) (λ e. rw e)))))
 
 module _ (n : Numbers) (k : Memory) (e : Ended) (h : stateOf n k ≡ over e) where
   byte-over : (b : ℕ) → byteStep b (held n k) ≡ held n k

@@ -36,6 +36,7 @@ use Rattle.format.proofs.Stage.{quiet-same, Val, Stage, stage-quiet, st
 use Rattle.format.proofs.Texts.{limit, quiet-reserve, part-none, Lasting, chars-alike, Growing, fill-alike, Reserving, text-then}
 use Rattle.format.proofs.Loops.{stage-used}
 use Rattle.format.proofs.Ends.{NewAlike, free, opening, ends-object, ends-free}
+use Rattle.rows.specs.Kinds.{kindByteArray}
 
 -- ---- a number's end
 
@@ -256,10 +257,10 @@ module _ (whole : List ℕ) (octets : Bytes whole) (value : Values) (tree : Std 
   xml-alike b zero q x = xml-none b q x
   xml-alike b (suc n) q x = xml-some b n q x
 
-  pub bytes-alike : (n : ℕ) → Stage true m₀ c₀ (opening 12 k) (c .store) m c s → NewAlike whole value tree f k m₀ c₀ 12 dec.bytes n m c s bs
+  pub bytes-alike : (n : ℕ) → Stage true m₀ c₀ (opening kindByteArray k) (c .store) m c s → NewAlike whole value tree f k m₀ c₀ kindByteArray dec.bytes n m c s bs
   unfolding our.newOf std.newOf std.shut
   bytes-alike n x = rw flat (room-then n m c s bs _ x (λ sp R z x₁ e d w.
-      filled-then whole octets (some-lasting true m₀ c₀ (λ (i : Unit {0}). bodyOf 12 k sp)) (λ left. ret tt)
+      filled-then whole octets (some-lasting true m₀ c₀ (λ (i : Unit {0}). bodyOf kindByteArray k sp)) (λ left. ret tt)
       (record { grown = λ {u} {m} {c} {s} left bs j. (m, refl, j, refl) }) n n (c .store) refl sp
       (withRows m R) (storeTo c z) s bs _ _ (tt, x₁) e (λ h. let g = d h in omega arith) w l (λ m₁ c₁ ys s₁ bs j t u h l.
       ends-object bs k (plain (byteArray ys)) (settle (j .1)) refl refl (omega arith) (ap (λ z. plain (byteArray z)) t) (omega arith) tt l)))

@@ -27,6 +27,7 @@ use Rattle.format.specs.Decide.{judged, textEnd, entered, referred, oldT
 use Rattle.format.specs.Reading.{ok, bad, bind, Result, Reader, decided, byte, u29, number, onPart}
 use Rattle.format.proofs.Tests.{on-bool}
 use Rattle.format.proofs.Memories.{atTo, numbers}
+use Rattle.rows.specs.Memory.{rowWidth}
 
 -- ---- results
 
@@ -115,13 +116,13 @@ module _ {Q : Unit {0} → List ℕ → Cursor → Type 0} (row : ℕ) (R : List
       only (rowUsed R c row) (λ e. gives (h (leb-false (c .objects) i f) (eqb-false _ 0 l))) halts)))))
 
 pub wp-marker : {Q : ℕ → List ℕ → Cursor → Type 0} (k : Key) (left b : ℕ) (R : List ℕ) (c : Cursor)
-    → (b ≤ 17 → c .rows * 12 + 12 ≤ length R → Q (c .rows) (sets R (c .rows * 12) (newRow b k (c .rows))) (rowsTo c (c .rows + 1)))
+    → (b ≤ 17 → c .rows * rowWidth + rowWidth ≤ length R → Q (c .rows) (sets R (c .rows * rowWidth) (newRow b k (c .rows))) (rowsTo c (c .rows + 1)))
     → Gives Q (marker k left b R c)
 unfolding marker
 wp-marker k left b R c h =
-    unless (ltb (length R / 12) (c .rows)) halts (λ e. unless (ltb 17 b) halts
-    (λ f. unless (eqb left 0) halts (λ g. unless (leb (length R / 12) (c .rows)) halts (λ i.
-    let l = leb-false (length R / 12) (c .rows) i in
+    unless (ltb (length R / rowWidth) (c .rows)) halts (λ e. unless (ltb 17 b) halts
+    (λ f. unless (eqb left 0) halts (λ g. unless (leb (length R / rowWidth) (c .rows)) halts (λ i.
+    let l = leb-false (length R / rowWidth) (c .rows) i in
     gives (h (ltb-false 17 b f) (omega arith))))))
 
 -- ---- the other loans

@@ -147,39 +147,39 @@ module _ {L L′ : Land} (x : Ext L L′) where
 
   key-ext : (r : ℕ) (xs : List ℕ) → Done L r → Text (L .store) (L .full) (at L r colKeyBegin) (at L r colKeySize) xs
       → Text (L′ .store) (L′ .full) (at L′ r colKeyBegin) (at L′ r colKeySize) xs
-  key-ext r xs d h = rw (x .cols r 2 d (omega arith), x .cols r 3 d (omega arith)) (text-ext _ _ xs h)
+  key-ext r xs d h = rw (x .cols r colKeyBegin d (omega arith), x .cols r colKeySize d (omega arith)) (text-ext _ _ xs h)
 
   head-ext : (r : ℕ) → Head L r → Head L′ r
   head-ext r h =
       let d : Done L r = (h .0, h .1) in
       let u = x .up in
       let f = x .fill in
-      rw (x .cols r 11 d (omega arith), x .cols r 4 d (omega arith), x .cols r 5 d (omega arith)) (h .0, omega arith, omega arith)
+      rw (x .cols r colEnd d (omega arith), x .cols r colBodyBegin d (omega arith), x .cols r colBodySize d (omega arith)) (h .0, omega arith, omega arith)
 
   face-ext : (r : ℕ) → Head L r → face L′ r ≡ face L r
   face-ext r h =
       let d : Done L r = (h .0, h .1) in
       rw (
-        x .cols r 0 d (omega arith),
-        x .cols r 6 d (omega arith),
-        x .cols r 7 d (omega arith),
-        x .cols r 8 d (omega arith),
-        x .cols r 9 d (omega arith),
-        x .cols r 10 d (omega arith),
-        x .cols r 4 d (omega arith),
-        x .cols r 5 d (omega arith),
+        x .cols r colKind d (omega arith),
+        x .cols r colClassMark d (omega arith),
+        x .cols r colFlag d (omega arith),
+        x .cols r colNumber d (omega arith),
+        x .cols r colCount d (omega arith),
+        x .cols r colCount2 d (omega arith),
+        x .cols r colBodyBegin d (omega arith),
+        x .cols r colBodySize d (omega arith),
         x .parts _ _ (h .2),
       )
 
   goal-ext : (r : ℕ) → Done L r → goal L′ r ≡ goal L r
-  goal-ext r d = rw (x .cols r 0 d (omega arith), x .cols r 8 d (omega arith))
+  goal-ext r d = rw (x .cols r colKind d (omega arith), x .cols r colNumber d (omega arith))
 
   is-ext : (t : Tree) (r : ℕ) → Head L r → Is t (face L r) → Is t (face L′ r)
   is-ext t r d h = subst (Is t) (sym (face-ext r d)) h
 
   from-ext : (r g : ℕ) → Done L g → From L r g → From L′ r g
   from-ext r g d (itself e) = itself e
-  from-ext r g d (before h) = before (rw (x .cols g 11 d (omega arith)) h)
+  from-ext r g d (before h) = before (rw (x .cols g colEnd d (omega arith)) h)
 
   rep-with : (t : Tree) (k : ℕ) → Rep t L k → Own t L′ (goal L k) → Rep t L′ k
   rep-with t k h o =
@@ -196,7 +196,7 @@ module _ {L L′ : Land} (x : Ext L L′) where
       (
         h .2 .0,
         repp-ext ps (suc r) (h .2 .0) (h .2 .1),
-        rw (x .cols r 11 (h .0 .0, h .0 .1) (omega arith)) (rept-ext ts (h .2 .0) (at L r colEnd) (h .2 .2)),
+        rw (x .cols r colEnd (h .0 .0, h .0 .1) (omega arith)) (rept-ext ts (h .2 .0) (at L r colEnd) (h .2 .2)),
       ),
     )
     own-ext (object z ps qs) r h = (
@@ -205,39 +205,39 @@ module _ {L L′ : Land} (x : Ext L L′) where
       (
         h .2 .0,
         repp-ext ps (suc r) (h .2 .0) (h .2 .1),
-        rw (x .cols r 11 (h .0 .0, h .0 .1) (omega arith)) (repp-ext qs (h .2 .0) (at L r colEnd) (h .2 .2)),
+        rw (x .cols r colEnd (h .0 .0, h .0 .1) (omega arith)) (repp-ext qs (h .2 .0) (at L r colEnd) (h .2 .2)),
       ),
     )
     own-ext (objectVector f z ts) r h = (
       head-ext r (h .0),
       is-ext (objectVector f z ts) r (h .0) (h .1),
-      rw (x .cols r 11 (h .0 .0, h .0 .1) (omega arith)) (rept-ext ts (suc r) (at L r colEnd) (h .2)),
+      rw (x .cols r colEnd (h .0 .0, h .0 .1) (omega arith)) (rept-ext ts (suc r) (at L r colEnd) (h .2)),
     )
     own-ext (dictionary f es) r h = (
       head-ext r (h .0),
       is-ext (dictionary f es) r (h .0) (h .1),
-      rw (x .cols r 11 (h .0 .0, h .0 .1) (omega arith)) (repe-ext es (suc r) (at L r colEnd) (h .2)),
+      rw (x .cols r colEnd (h .0 .0, h .0 .1) (omega arith)) (repe-ext es (suc r) (at L r colEnd) (h .2)),
     )
 
     pub rept-ext : (ts : Trees) (k e : ℕ) → RepT ts L k e → RepT ts L′ k e
     rept-ext nil k e h = h
     rept-ext (cons t ts) k e h =
-        (rep-with t k (h .0) (own-ext t (goal L k) (h .0 .2)), rw (x .cols k 11 (h .0 .0) (omega arith)) (rept-ext ts (at L k colEnd) e (h .1)))
+        (rep-with t k (h .0) (own-ext t (goal L k) (h .0 .2)), rw (x .cols k colEnd (h .0 .0) (omega arith)) (rept-ext ts (at L k colEnd) e (h .1)))
 
     pub repp-ext : (ps : Pairs) (k e : ℕ) → RepP ps L k e → RepP ps L′ k e
     repp-ext noPairs k e h = h
     repp-ext (pair z t ps) k e h = (
       rep-with t k (h .0) (own-ext t (goal L k) (h .0 .2)),
       key-ext k z (h .0 .0) (h .1),
-      rw (x .cols k 11 (h .0 .0) (omega arith)) (repp-ext ps (at L k colEnd) e (h .2)),
+      rw (x .cols k colEnd (h .0 .0) (omega arith)) (repp-ext ps (at L k colEnd) e (h .2)),
     )
 
     pub repe-ext : (es : Entries) (k e : ℕ) → RepE es L k e → RepE es L′ k e
     repe-ext noEntries k e h = h
     repe-ext (entry a b es) k e h = (
       rep-with a k (h .0) (own-ext a (goal L k) (h .0 .2)),
-      rw (x .cols k 11 (h .0 .0) (omega arith)) (rep-with b (at L k colEnd) (h .1) (own-ext b (goal L (at L k colEnd)) (h .1 .2))),
-      rw (x .cols k 11 (h .0 .0) (omega arith), x .cols (at L k colEnd) 11 (h .1 .0) (omega arith))
+      rw (x .cols k colEnd (h .0 .0) (omega arith)) (rep-with b (at L k colEnd) (h .1) (own-ext b (goal L (at L k colEnd)) (h .1 .2))),
+      rw (x .cols k colEnd (h .0 .0) (omega arith), x .cols (at L k colEnd) colEnd (h .1 .0) (omega arith))
           (repe-ext es (at L (at L k colEnd) colEnd) e (h .2)),
     )
 

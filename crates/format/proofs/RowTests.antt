@@ -22,6 +22,8 @@ use Rattle.format.proofs.Ground.{Land, land, at, Done}
 use Rattle.format.proofs.Lands.{Within, classless, class, Meets, bare, named, long, Marked, Run, ends, goes, undefined}
 use Rattle.format.proofs.Lands.{null, boolean, integer, double, date, string, xmlDocument, xml, ints, uints, doubles, Form, number, text}
 use Rattle.format.proofs.Lands.{bytes, raw, array, object, vector, dictionary, reference, Sound, run-up}
+use Rattle.rows.specs.Memory.{rowWidth}
+use Rattle.rows.specs.Memory.{colBodySize, colCount, colCount2}
 
 -- the test passes, or the least faulty row can't be written for its date
 pub data Passes (R : List ℕ) : Tested → Type 0 where
@@ -31,7 +33,7 @@ pub data Passes (R : List ℕ) : Tested → Type 0 where
 -- ---- a row by itself
 
 -- rows of two tables with the same columns fit alike
-module _ (R C B : List ℕ) (i j k : ℕ) (same : (n : ℕ) → n < 12 → col R i n ≡ col C j n) where
+module _ (R C B : List ℕ) (i j k : ℕ) (same : (n : ℕ) → n < rowWidth → col R i n ≡ col C j n) where
   same-columns : columnsFit R B i k ≡ columnsFit C B j k
   unfolding columnsFit
   same-columns = rw (
@@ -112,9 +114,9 @@ form-length (dictionary f a) = refl
 form-length (reference l d h o e) = refl
 
 -- a row alone in a table
-alone : (cs : List ℕ) (j : ℕ) → length cs ≡ 12 → col cs 0 j ≡ getD cs j 0
+alone : (cs : List ℕ) (j : ℕ) → length cs ≡ rowWidth → col cs 0 j ≡ getD cs j 0
 unfolding col
-alone cs j h = let e : 0 * 12 + j ≡ j = omega arith in rw (h, e)
+alone cs j h = let e : 0 * rowWidth + j ≡ j = omega arith in rw (h, e)
 
 -- an integer of 29 bits has 32
 signed-more : (v : ℕ) → signedFits 28 v ≡ true → signedFits 31 v ≡ true
@@ -142,18 +144,18 @@ module _ (R B : List ℕ) (u : ℕ) where
   run-closes y stop ends l h = let e : 0 + y ≡ y = omega arith in rw e h
   run-closes y stop (goes {k = k} {n = n} d m r) l h =
       let e : suc n + y ≡ suc (n + y) = omega arith in
-      let c = col-at k 11 (done-in k d) in
+      let c = col-at k colEnd (done-in k d) in
       let f = run-up r in
       let a = d .0 in
-      rw (e, c, lt-ltb k (at L k 11) a, le-leb (at L k 11) stop (omega arith)) (run-closes y stop r l h)
+      rw (e, c, lt-ltb k (at L k colEnd) a, le-leb (at L k colEnd) stop (omega arith)) (run-closes y stop r l h)
 
   run-all : {g : Given} {k e n : ℕ} → Run L g k e n → closes R e k n ≡ true
   unfolding closes
   run-all {g} {k} {e} {n} r = let z : n + 0 ≡ n = omega arith in rw z at (run-closes 0 e r (omega arith) (eq-eqb e e refl))
 
-  after-more : (k n : ℕ) → k < rowsIn R → after R k (suc n) ≡ after R (at L k 11) n
+  after-more : (k n : ℕ) → k < rowsIn R → after R k (suc n) ≡ after R (at L k colEnd) n
   unfolding after
-  after-more k n h = rw (col-at k 11 h)
+  after-more k n h = rw (col-at k colEnd h)
 
   -- the row behind them
   run-after : {g : Given} {k e n : ℕ} → Run L g k e n → (j : ℕ) → after R k (n + j) ≡ after R e j
@@ -165,7 +167,7 @@ module _ (R B : List ℕ) (u : ℕ) where
   unfolding after
   run-marked ends j h = absurd (omega arith)
   run-marked (goes d m r) zero h = m
-  run-marked (goes {k = k} d m r) (suc j) h = rw (col-at k 11 (done-in k d)) (run-marked r j (omega arith))
+  run-marked (goes {k = k} d m r) (suc j) h = rw (col-at k colEnd (done-in k d)) (run-marked r j (omega arith))
 
   -- two runs
   two-marked : {a b : Given} {k mid e x y : ℕ} → Run L a k mid x → Run L b mid e y → (j : ℕ) → j < x + y → Marked L (cond (ltb j x) a b) (after R k j)
@@ -185,34 +187,34 @@ module _ (R B : List ℕ) (u : ℕ) where
     untimely : k ≡ kindDate → 2 ^ 53 < col R i colNumber → Timely i k
 
   module _ (i m b z : ℕ) where
-    value-fits : {k : ℕ} {cs : List ℕ} → Form L i k cs → ((j : ℕ) → j < 12 → col R i j ≡ getD (k ∷ m ∷ b ∷ z ∷ cs) j 0) → valueFits R i k ≡ true
+    value-fits : {k : ℕ} {cs : List ℕ} → Form L i k cs → ((j : ℕ) → j < rowWidth → col R i j ≡ getD (k ∷ m ∷ b ∷ z ∷ cs) j 0) → valueFits R i k ≡ true
     unfolding valueFits
     value-fits (number undefined e) is = refl
     value-fits (number null e) is = refl
-    value-fits (number (boolean l) e) is = rw (is 8 (omega arith)) (le-leb _ 1 l)
-    value-fits (number (integer l) e) is = rw (is 8 (omega arith)) (signed-more _ l)
+    value-fits (number (boolean l) e) is = rw (is colNumber (omega arith)) (le-leb _ 1 l)
+    value-fits (number (integer l) e) is = rw (is colNumber (omega arith)) (signed-more _ l)
     value-fits (number double e) is = refl
     value-fits (number date e) is = refl
     value-fits (text string v e) is = refl
     value-fits (text xmlDocument v e) is = refl
     value-fits (text xml v e) is = refl
     value-fits (bytes v e) is = refl
-    value-fits (raw ints v w f e) is = rw (is 5 (omega arith), is 9 (omega arith)) (eq-eqb _ _ w)
-    value-fits (raw uints v w f e) is = rw (is 5 (omega arith), is 9 (omega arith)) (eq-eqb _ _ w)
-    value-fits (raw doubles v w f e) is = rw (is 5 (omega arith), is 9 (omega arith)) (eq-eqb _ _ w)
+    value-fits (raw ints v w f e) is = rw (is colBodySize (omega arith), is colCount (omega arith)) (eq-eqb _ _ w)
+    value-fits (raw uints v w f e) is = rw (is colBodySize (omega arith), is colCount (omega arith)) (eq-eqb _ _ w)
+    value-fits (raw doubles v w f e) is = rw (is colBodySize (omega arith), is colCount (omega arith)) (eq-eqb _ _ w)
     value-fits (array p q) is = refl
     value-fits (object c p q) is = refl
     value-fits (vector c f p) is = refl
     value-fits (dictionary f p) is = refl
     value-fits (reference {t = t} l d a o e) is =
-        rw (is 8 (omega arith), col-at t 11 (done-in t d), col-at t 0 (done-in t d), lt-ltb t i l, le-leb (at L t 11) i a, o)
+        rw (is colNumber (omega arith), col-at t colEnd (done-in t d), col-at t colKind (done-in t d), lt-ltb t i l, le-leb (at L t colEnd) i a, o)
 
-    number-fits : {k : ℕ} {cs : List ℕ} → Form L i k cs → ((j : ℕ) → j < 12 → col R i j ≡ getD (k ∷ m ∷ b ∷ z ∷ cs) j 0) → Timely i k
+    number-fits : {k : ℕ} {cs : List ℕ} → Form L i k cs → ((j : ℕ) → j < rowWidth → col R i j ≡ getD (k ∷ m ∷ b ∷ z ∷ cs) j 0) → Timely i k
     unfolding numberWritable
     number-fits (number undefined e) is = timely refl
     number-fits (number null e) is = timely refl
     number-fits (number (boolean l) e) is = timely refl
-    number-fits (number (integer l) e) is = timely (rw (is 8 (omega arith)) l)
+    number-fits (number (integer l) e) is = timely (rw (is colNumber (omega arith)) l)
     number-fits (number double e) is = timely refl
     number-fits (number date e) is = elim (decLt (2 ^ 53) (col R i colNumber))
         [ yes l ↦ untimely refl l | no l ↦ timely (le-leb (col R i colNumber) (2 ^ 53) (omega arith)) ]
@@ -239,41 +241,41 @@ module _ (R B : List ℕ) (u : ℕ) where
     unfolding closes
     no-kids e c = record { closing = rw (e, c) (eq-eqb (suc i) (suc i) refl); marked = λ j l. absurd (omega arith) }
 
-    kids-in : {k : ℕ} {cs : List ℕ} → Form L i k cs → ((j : ℕ) → j < 12 → col R i j ≡ getD (k ∷ m ∷ b ∷ z ∷ cs) j 0) → Kids i
+    kids-in : {k : ℕ} {cs : List ℕ} → Form L i k cs → ((j : ℕ) → j < rowWidth → col R i j ≡ getD (k ∷ m ∷ b ∷ z ∷ cs) j 0) → Kids i
     unfolding children gives
-    kids-in (number undefined e) is = no-kids (is 11 (omega arith) ∙ e) (rw (is 0 (omega arith)))
-    kids-in (number null e) is = no-kids (is 11 (omega arith) ∙ e) (rw (is 0 (omega arith)))
-    kids-in (number (boolean l) e) is = no-kids (is 11 (omega arith) ∙ e) (rw (is 0 (omega arith)))
-    kids-in (number (integer l) e) is = no-kids (is 11 (omega arith) ∙ e) (rw (is 0 (omega arith)))
-    kids-in (number double e) is = no-kids (is 11 (omega arith) ∙ e) (rw (is 0 (omega arith)))
-    kids-in (number date e) is = no-kids (is 11 (omega arith) ∙ e) (rw (is 0 (omega arith)))
-    kids-in (text string v e) is = no-kids (is 11 (omega arith) ∙ e) (rw (is 0 (omega arith)))
-    kids-in (text xmlDocument v e) is = no-kids (is 11 (omega arith) ∙ e) (rw (is 0 (omega arith)))
-    kids-in (text xml v e) is = no-kids (is 11 (omega arith) ∙ e) (rw (is 0 (omega arith)))
-    kids-in (bytes v e) is = no-kids (is 11 (omega arith) ∙ e) (rw (is 0 (omega arith)))
-    kids-in (raw ints v w f e) is = no-kids (is 11 (omega arith) ∙ e) (rw (is 0 (omega arith)))
-    kids-in (raw uints v w f e) is = no-kids (is 11 (omega arith) ∙ e) (rw (is 0 (omega arith)))
-    kids-in (raw doubles v w f e) is = no-kids (is 11 (omega arith) ∙ e) (rw (is 0 (omega arith)))
-    kids-in (reference l d a o e) is = no-kids (is 11 (omega arith) ∙ e) (rw (is 0 (omega arith)))
+    kids-in (number undefined e) is = no-kids (is colEnd (omega arith) ∙ e) (rw (is colKind (omega arith)))
+    kids-in (number null e) is = no-kids (is colEnd (omega arith) ∙ e) (rw (is colKind (omega arith)))
+    kids-in (number (boolean l) e) is = no-kids (is colEnd (omega arith) ∙ e) (rw (is colKind (omega arith)))
+    kids-in (number (integer l) e) is = no-kids (is colEnd (omega arith) ∙ e) (rw (is colKind (omega arith)))
+    kids-in (number double e) is = no-kids (is colEnd (omega arith) ∙ e) (rw (is colKind (omega arith)))
+    kids-in (number date e) is = no-kids (is colEnd (omega arith) ∙ e) (rw (is colKind (omega arith)))
+    kids-in (text string v e) is = no-kids (is colEnd (omega arith) ∙ e) (rw (is colKind (omega arith)))
+    kids-in (text xmlDocument v e) is = no-kids (is colEnd (omega arith) ∙ e) (rw (is colKind (omega arith)))
+    kids-in (text xml v e) is = no-kids (is colEnd (omega arith) ∙ e) (rw (is colKind (omega arith)))
+    kids-in (bytes v e) is = no-kids (is colEnd (omega arith) ∙ e) (rw (is colKind (omega arith)))
+    kids-in (raw ints v w f e) is = no-kids (is colEnd (omega arith) ∙ e) (rw (is colKind (omega arith)))
+    kids-in (raw uints v w f e) is = no-kids (is colEnd (omega arith) ∙ e) (rw (is colKind (omega arith)))
+    kids-in (raw doubles v w f e) is = no-kids (is colEnd (omega arith) ∙ e) (rw (is colKind (omega arith)))
+    kids-in (reference l d a o e) is = no-kids (is colEnd (omega arith) ∙ e) (rw (is colKind (omega arith)))
     kids-in (array p q) is =
         record {
-          closing = rw (is 0 (omega arith), is 9 (omega arith), is 10 (omega arith), is 11 (omega arith)) (run-closes _ _ p (run-up q) (run-all q));
-          marked = rw (is 0 (omega arith), is 9 (omega arith), is 10 (omega arith)) (two-marked p q);
+          closing = rw (is colKind (omega arith), is colCount (omega arith), is colCount2 (omega arith), is colEnd (omega arith)) (run-closes _ _ p (run-up q) (run-all q));
+          marked = rw (is colKind (omega arith), is colCount (omega arith), is colCount2 (omega arith)) (two-marked p q);
         }
     kids-in (object c p q) is =
         record {
-          closing = rw (is 0 (omega arith), is 9 (omega arith), is 10 (omega arith), is 11 (omega arith)) (run-closes _ _ p (run-up q) (run-all q));
-          marked = rw (is 0 (omega arith), is 9 (omega arith), is 10 (omega arith)) (two-marked p q);
+          closing = rw (is colKind (omega arith), is colCount (omega arith), is colCount2 (omega arith), is colEnd (omega arith)) (run-closes _ _ p (run-up q) (run-all q));
+          marked = rw (is colKind (omega arith), is colCount (omega arith), is colCount2 (omega arith)) (two-marked p q);
         }
     kids-in (vector c f p) is =
         record {
-          closing = rw (is 0 (omega arith), is 9 (omega arith), is 11 (omega arith)) (run-all p);
-          marked = rw (is 0 (omega arith), is 9 (omega arith)) (run-marked p);
+          closing = rw (is colKind (omega arith), is colCount (omega arith), is colEnd (omega arith)) (run-all p);
+          marked = rw (is colKind (omega arith), is colCount (omega arith)) (run-marked p);
         }
     kids-in (dictionary f p) is =
         record {
-          closing = rw (is 0 (omega arith), is 9 (omega arith), is 11 (omega arith)) (run-all p);
-          marked = rw (is 0 (omega arith), is 9 (omega arith)) (run-marked p);
+          closing = rw (is colKind (omega arith), is colCount (omega arith), is colEnd (omega arith)) (run-all p);
+          marked = rw (is colKind (omega arith), is colCount (omega arith)) (run-marked p);
         }
 
 -- ---- parents
@@ -381,14 +383,14 @@ module _ {R B : List ℕ} {u : ℕ} (table : Table R B u) where
   abbrev colsOf : {i : ℕ} → Sound M i → List ℕ
   colsOf s = s .kind ∷ s .key .mark ∷ s .key .begin ∷ s .key .size ∷ s .body
 
-  is-row : (i : ℕ) → i < rowsIn R → (s : Sound M i) → (j : ℕ) → j < 12 → col R i j ≡ getD (colsOf s) j 0
+  is-row : (i : ℕ) → i < rowsIn R → (s : Sound M i) → (j : ℕ) → j < rowWidth → col R i j ≡ getD (colsOf s) j 0
   is-row i h s j l = col-at R B u i j h ∙ s .row j l
 
   kids : (i : ℕ) → i < rowsIn R → Kids R B u i
   kids i h = let s = table .all i h in kids-in R B u i _ _ _ (s .form) (is-row i h s)
 
   ended : col R 0 colEnd ≡ rowsIn R
-  ended = col-at R B u 0 11 (table .some) ∙ table .last
+  ended = col-at R B u 0 colEnd (table .some) ∙ table .last
 
   given-marked : (i : ℕ) → i < rowsIn R → Marked M (given R i i) i
   given-marked i h = by (giving R i i)
@@ -406,7 +408,7 @@ module _ {R B : List ℕ} {u : ℕ} (table : Table R B u) where
     abbrev S : Sound M i
     S = table .all i h
 
-    alike : (j : ℕ) → j < 12 → col R i j ≡ col (colsOf S) 0 j
+    alike : (j : ℕ) → j < rowWidth → col R i j ≡ col (colsOf S) 0 j
     alike j l = is-row i h S j l ∙ sym (alone (colsOf S) j (ap (λ n. suc (suc (suc (suc n)))) (form-length (S .form))))
 
     kind-is : col R i colKind ≡ S .kind
@@ -433,7 +435,7 @@ module _ {R B : List ℕ} {u : ℕ} (table : Table R B u) where
           same-columns R (colsOf S) B i 0 (S .kind) alike,
           o .columns,
           value-fits R B u i _ _ _ (S .form) (is-row i h S),
-          le-leb (col R i colEnd) (rowsIn R) (rw (col-at R B u i 11 h) (S .top)),
+          le-leb (col R i colEnd) (rowsIn R) (rw (col-at R B u i colEnd h) (S .top)),
           (kids i h) .closing,
         )
         (eq-eqb (S .key .mark) (markOf (given R i i)) (sym (S .row 1 (omega arith)) ∙ g .mark))

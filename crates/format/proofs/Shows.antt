@@ -16,13 +16,14 @@ use Rattle.format.specs.Step.{assoc, dynamics, Use, forString, forKey, f
 use Rattle.format.specs.Step.{integerWord, objectWord, sizeWord, textWord, doubleBits, dateBits, rawFlag, objectsFlag, dictionaryFlag}
 use Rattle.format.specs.Step.{Mode, atMarker, atWord, atNumber, atFlag, atText, atRaw, astray, State, wait, over, none, step, run, begin}
 use Rattle.format.specs.Numbers.{countsFit, useFits, modeFits, depthFits}
-use Rattle.format.specs.Numbers.{Numbers, lentOf, sameLent, sound, soundStep, Held, held, stateOf, numbered, memoryOf, afterStep, stepped, byteStep}
+use Rattle.format.specs.Numbers.{Numbers, lentOf, sameLent, sound, soundStep, Held, held, stateOf, numbersOf, memoryOf, afterStep, stepped, byteStep}
 use Rattle.format.specs.Answers.{blank, runHeld, costFrom, stateIn, takenBy}
 use Rattle.format.proofs.Tests.{on-bool, both, clash}
 use Rattle.format.proofs.Used.{Counts, UseIn, ModeIn}
 use Rattle.format.proofs.Kept.{Lends, Holds, faultIn}
 use Rattle.format.proofs.Along.{Good, waits, finishes, declines, Fits, lends-zeroed, good-step, takes, good-run, good-begin}
 use Rattle.format.proofs.States.{Shown, state-numbered, length-laid}
+use Rattle.format.specs.Refusals as refusals
 
 -- ---- a test, and what it tests
 
@@ -157,14 +158,14 @@ good-shown s (waits {x = x} {ts = ts} h f u) = few x (length ts) f
 good-shown s (finishes h) = tt
 good-shown s (declines t h z) = t
 
-lengths-numbered : {lent : Lent} {at : ℕ} (n : Numbers) (s : State) → Good lent at s → (numbered n s) .head .lent ≡ n .head .lent
-unfolding numbered
+lengths-numbered : {lent : Lent} {at : ℕ} (n : Numbers) (s : State) → Good lent at s → (numbersOf n s) .head .lent ≡ n .head .lent
+unfolding numbersOf
 lengths-numbered n s (waits h f u) = refl
 lengths-numbered n s (finishes h) = refl
 lengths-numbered n s (declines t h z) = refl
 
-room-numbered : {lent : Lent} {at : ℕ} (n : Numbers) (s : State) → Good lent at s → length ((numbered n s) .frames) ≡ length (n .frames)
-unfolding numbered
+room-numbered : {lent : Lent} {at : ℕ} (n : Numbers) (s : State) → Good lent at s → length ((numbersOf n s) .frames) ≡ length (n .frames)
+unfolding numbersOf
 room-numbered n s (waits h f u) = length-laid (n .frames) _
 room-numbered n s (finishes h) = refl
 room-numbered n s (declines t h z) = refl
@@ -259,7 +260,7 @@ pub memory-of : (n : Numbers) (m : Memory) → memoryOf (stateOf n m) ≡ m
 unfolding stateOf
 memory-of n m = on-bool (eqb (n .head .status) 1) (λ e. rw e) (λ e. rw e
     (on-bool (eqb (n .head .status) 2) (λ e. rw e) (λ e. rw e
-    (on-bool (eqb (n .head .status) 3 && leb 1 (n .head .number) && leb (n .head .number) 12) (λ e. rw e) (λ e. rw e)))))
+    (on-bool (eqb (n .head .status) 3 && leb refusals.badLoan (n .head .number) && leb (n .head .number) refusals.lost) (λ e. rw e) (λ e. rw e)))))
 
 lengths-stepped : (n : Numbers) (m : Memory) (b : ℕ) (s : State) → memoryOf s ≡ m → lentOf (memoryIn (stepped n m b s)) ≡ lentOf m
 unfolding afterStep

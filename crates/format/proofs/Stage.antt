@@ -21,13 +21,14 @@ use Rattle.format.proofs.Ground.{Land, ext-put, cell-put, landOf, landT
 use Rattle.format.proofs.Rep.{Face, face, Is, Own, Rep, own-head, Kids, own-of, kids-ext}
 use Rattle.format.proofs.Tables.{Entry, Sim}
 use Rattle.format.proofs.Changes.{addObject, setObject, sim-at, sim-put, sim-object, sim-close}
+use Rattle.rows.specs.Memory.{rowWidth}
 
 -- ---- what stays
 
 -- m′ and c′ come later: all that was used then is the same; of the store, the first u bytes
 pub record Keep (u : ℕ) (m : Memory) (c : Cursor) (m′ : Memory) (c′ : Cursor) : Type 0 where
   pub rowsUp : c .rows ≤ c′ .rows
-  pub rows : Kept (c .rows * 12) (m .rows) (m′ .rows)
+  pub rows : Kept (c .rows * rowWidth) (m .rows) (m′ .rows)
   pub storeUp : c .store ≤ c′ .store
   pub store : Kept u (m .store) (m′ .store)
   pub namesUp : c .names ≤ c′ .names
@@ -61,7 +62,7 @@ keep-trans l x y =
     }
 
 -- rows past those that were used then may change
-pub keep-rows : {u : ℕ} {m m′ : Memory} {c c′ : Cursor} (R : List ℕ) → Kept (c .rows * 12) (m′ .rows) R → Keep u m c m′ c′
+pub keep-rows : {u : ℕ} {m m′ : Memory} {c c′ : Cursor} (R : List ℕ) → Kept (c .rows * rowWidth) (m′ .rows) R → Keep u m c m′ c′
     → Keep u m c (withRows m′ R) c′
 keep-rows R h k =
     record {
@@ -143,9 +144,9 @@ pub record Stage (o : Bool) (m₀ : Memory) (c₀ : Cursor) (cs : List ℕ) (u :
   pub keep : Keep (c₀ .store) m₀ c₀ m c
   pub high : c₀ .store ≤ u
   pub newer : c₀ .rows < c .rows
-  pub row : (j : ℕ) → j < 12 → cell (m .rows) (c₀ .rows) j ≡ getD cs j 0
-  pub long : length cs ≡ 12
-  pub unended : getD cs 11 0 ≡ 0
+  pub row : (j : ℕ) → j < rowWidth → cell (m .rows) (c₀ .rows) j ≡ getD cs j 0
+  pub long : length cs ≡ rowWidth
+  pub unended : getD cs colEnd 0 ≡ 0
   pub below : (i : ℕ) → i < c₀ .objects → (getD (m₀ .objects) i 0 < c₀ .rows) × (cell (m₀ .rows) (getD (m₀ .objects) i 0) colEnd ≤ c₀ .rows)
   pub slot : Slot o m₀ c₀ m c
 
@@ -166,7 +167,7 @@ module _ {m₀ : Memory} {c₀ : Cursor} {cs : List ℕ} {u : ℕ} {m : Memory} 
 
   module _ {o : Bool} (x : Stage o m₀ c₀ cs u m c s) where
     pub open-row : cell (m .rows) (c₀ .rows) colEnd ≡ 0
-    open-row = x .row 11 (omega arith) ∙ x .unended
+    open-row = x .row colEnd (omega arith) ∙ x .unended
 
     -- a later memory
     later : {m′ : Memory} {c′ : Cursor} {s′ : Tables} (v : ℕ) → u ≤ v → Keep u m c m′ c′ → Sim v m′ c′ s′ → Slot o m₀ c₀ m′ c′
@@ -180,7 +181,7 @@ module _ {m₀ : Memory} {c₀ : Cursor} {cs : List ℕ} {u : ℕ} {m : Memory} 
           keep = keep-trans d (x .keep) k;
           high = omega arith;
           newer = omega arith;
-          row = λ j h. k .rows (c₀ .rows * 12 + j) (omega arith) ∙ x .row j h;
+          row = λ j h. k .rows (c₀ .rows * rowWidth + j) (omega arith) ∙ x .row j h;
           long = x .long;
           unended = x .unended;
           below = x .below;
@@ -194,12 +195,12 @@ module _ {m₀ : Memory} {c₀ : Cursor} {cs : List ℕ} {u : ℕ} {m : Memory} 
     stage-at n h l = stage-quiet u (omega arith) (quiet-at u m c n h) (sim-at (x .sim) n l)
 
     -- a column of its row
-    pub stage-put : (j v : ℕ) → j < 11 → Stage o m₀ c₀ (set cs j v) u (withRows m (put (m .rows) (c₀ .rows) j v)) c s
+    pub stage-put : (j v : ℕ) → j < colEnd → Stage o m₀ c₀ (set cs j v) u (withRows m (put (m .rows) (c₀ .rows) j v)) c s
     stage-put j v h =
-        let e : 11 ≢ j = omega arith in
+        let e : colEnd ≢ j = omega arith in
         record {
           sim = sim-put (x .sim) (c₀ .rows) j v open-row (omega arith) h;
-          keep = keep-rows _ (kept-set (c₀ .rows * 12) (c₀ .rows * 12 + j) v (m .rows) (omega arith)) (x .keep);
+          keep = keep-rows _ (kept-set (c₀ .rows * rowWidth) (c₀ .rows * rowWidth + j) v (m .rows) (omega arith)) (x .keep);
           high = x .high;
           newer = x .newer;
           row = cell-put (m .rows) cs (c₀ .rows) j v (x .long) (let b = x .newer in let d = x .sim .rowsIn in omega arith) (x .row);
@@ -270,10 +271,10 @@ slotOf true c₀ c = c₀ .objects
 
 module _ {o : Bool} {m₀ : Memory} {c₀ : Cursor} {cs : List ℕ} {m : Memory} {c : Cursor} {s : Tables} (x : Stage o m₀ c₀ cs (c .store) m c s) where
   pub ends-col : cell (put (m .rows) (c₀ .rows) colEnd (c .rows)) (c₀ .rows) colEnd ≡ c .rows
-  ends-col = let a : c₀ .rows * 12 + 11 < length (m .rows) = (let b = x .newer in let d = x .sim .rowsIn in omega arith) in simp getD-set-same
+  ends-col = let a : c₀ .rows * rowWidth + colEnd < length (m .rows) = (let b = x .newer in let d = x .sim .rowsIn in omega arith) in simp getD-set-same
 
-  pub ends-row : (j : ℕ) → j < 11 → cell (put (m .rows) (c₀ .rows) colEnd (c .rows)) (c₀ .rows) j ≡ getD cs j 0
-  ends-row j l = let a : c₀ .rows * 12 + j ≢ c₀ .rows * 12 + 11 = omega arith in rw getD-set-other (x .row j (omega arith))
+  pub ends-row : (j : ℕ) → j < colEnd → cell (put (m .rows) (c₀ .rows) colEnd (c .rows)) (c₀ .rows) j ≡ getD cs j 0
+  ends-row j l = let a : c₀ .rows * rowWidth + j ≢ c₀ .rows * rowWidth + colEnd = omega arith in rw getD-set-other (x .row j (omega arith))
 
   -- its own tree, from its columns and what was read after it
   pub ends-own : (t : Tree) → Is t (faceOf cs (m .store)) → getD cs 4 0 + getD cs 5 0 ≤ c .store → Kids t (landOf m c) (c₀ .rows) (c .rows)
@@ -304,7 +305,7 @@ module _ {o : Bool} {m₀ : Memory} {c₀ : Cursor} {cs : List ℕ} {m : Memory}
   ends-val k t b z l r own =
       record {
         sim = close o x own;
-        keep = keep-rows _ (kept-set (c₀ .rows * 12) (c₀ .rows * 12 + 11) (c .rows) (m .rows) (omega arith)) (x .keep);
+        keep = keep-rows _ (kept-set (c₀ .rows * rowWidth) (c₀ .rows * rowWidth + colEnd) (c .rows) (m .rows) (omega arith)) (x .keep);
         rep = r;
         fin = ends-col;
         keyBegin = ends-row 2 (omega arith) ∙ b;

@@ -17,6 +17,7 @@ use Rattle.format.proofs.Lists.{sets-in, Kept, kept-set, kept-sets, las
 use Rattle.format.proofs.Memories.{withRows}
 use Rattle.format.proofs.Ground.{Land, land, at, Done, Ext, ext-kept, ext-put, cell-put, landOf}
 use Rattle.format.proofs.Lands.{Valid, Meets, Marked, Form, Sound, form-ext, bare, named, long, sound-ext}
+use Rattle.rows.specs.Memory.{rowWidth}
 
 -- ---- what holds of the loans
 
@@ -32,7 +33,7 @@ pub record Entry (L : Land) (t : ℕ) : Type 0 where
 
 -- the texts of strings, names and classes are valid, and objects are rows of such kinds
 pub record Ok (m : Memory) (c : Cursor) : Type 0 where
-  pub rowsIn : c .rows * 12 ≤ length (m .rows)
+  pub rowsIn : c .rows * rowWidth ≤ length (m .rows)
   pub storeIn : c .store ≤ length (m .store)
   pub strings : (i : ℕ) → i < c .strings → Valid (landOf m c) (spanAt (m .strings) i)
   pub names : (i : ℕ) → i < c .names → Valid (landOf m c) (spanAt (m .names) i)
@@ -42,7 +43,7 @@ pub record Ok (m : Memory) (c : Cursor) : Type 0 where
 -- m′ and c′ come later: the rows and the store used then are the same
 pub record Keep (m : Memory) (c : Cursor) (m′ : Memory) (c′ : Cursor) : Type 0 where
   pub rowsUp : c .rows ≤ c′ .rows
-  pub rows : Kept (c .rows * 12) (m .rows) (m′ .rows)
+  pub rows : Kept (c .rows * rowWidth) (m .rows) (m′ .rows)
   pub storeUp : c .store ≤ c′ .store
   pub store : Kept (c .store) (m .store) (m′ .store)
   pub long : length (m′ .store) ≡ length (m .store)
@@ -73,9 +74,9 @@ pub record Stage (m₀ : Memory) (c₀ : Cursor) (cs : List ℕ) (m : Memory) (c
   pub ok : Ok m c
   pub keep : Keep m₀ c₀ m c
   pub newer : c₀ .rows < c .rows
-  pub row : (j : ℕ) → j < 12 → cell (m .rows) (c₀ .rows) j ≡ getD cs j 0
-  pub long : length cs ≡ 12
-  pub unended : getD cs 11 0 ≡ 0
+  pub row : (j : ℕ) → j < rowWidth → cell (m .rows) (c₀ .rows) j ≡ getD cs j 0
+  pub long : length cs ≡ rowWidth
+  pub unended : getD cs colEnd 0 ≡ 0
   pub each : (i : ℕ) → c₀ .rows < i → i < c .rows → Sound (landOf m c) i
 
 -- a column of a row
@@ -83,7 +84,7 @@ ends-put : {L : Land} {t : ℕ} (R : List ℕ) → cell R t colEnd ≡ at L t co
 ends-put R e (still h) = still (e ∙ h)
 ends-put R e (already h) = already (rw e h)
 
-ok-put : {m : Memory} {c : Cursor} → Ok m c → (r j v : ℕ) → ((i : ℕ) → i < c .objects → getD (m .objects) i 0 * 12 + 0 ≢ r * 12 + j) → j < 11
+ok-put : {m : Memory} {c : Cursor} → Ok m c → (r j v : ℕ) → ((i : ℕ) → i < c .objects → getD (m .objects) i 0 * rowWidth + 0 ≢ r * rowWidth + j) → j < colEnd
     → Ok (withRows m (put (m .rows) r j v)) c
 ok-put {m} {c} x r j v a b =
     record {
@@ -96,7 +97,7 @@ ok-put {m} {c} x r j v a b =
           (let t : ℕ = getD (m .objects) i 0 in
           let e = x .objects i h in
           let p = a i h in
-          let q : t * 12 + 11 ≢ r * 12 + j = omega arith in
+          let q : t * rowWidth + colEnd ≢ r * rowWidth + j = omega arith in
           record { below = e .below; kind = rw getD-set-other (e .kind); ending = ends-put (put (m .rows) r j v) (simp getD-set-other) (e .ending) });
     }
 
@@ -112,46 +113,46 @@ ok-close {m} {c} x r l =
       objects = λ i h.
           (let t : ℕ = getD (m .objects) i 0 in
           let e = x .objects i h in
-          let p : t * 12 + 0 ≢ r * 12 + 11 = omega arith in
+          let p : t * rowWidth + 0 ≢ r * rowWidth + colEnd = omega arith in
           record {
             below = e .below;
             kind = rw getD-set-other (e .kind);
             ending = elim (ℕ-discrete t r) [
               | yes w ↦
-                  (let a : r * 12 + 11 < length (m .rows) = (let b = x .rowsIn in omega arith) in
+                  (let a : r * rowWidth + colEnd < length (m .rows) = (let b = x .rowsIn in omega arith) in
                   let z : cell (put (m .rows) r colEnd (c .rows)) t colEnd ≡ c .rows = rw (w, getD-set-same) in
                   already (rw z (rw w l, omega arith)))
-              | no w ↦ (let q : t * 12 + 11 ≢ r * 12 + 11 = omega arith in ends-put (put (m .rows) r colEnd (c .rows)) (simp getD-set-other) (e .ending))
+              | no w ↦ (let q : t * rowWidth + colEnd ≢ r * rowWidth + colEnd = omega arith in ends-put (put (m .rows) r colEnd (c .rows)) (simp getD-set-other) (e .ending))
             ];
           });
     }
 
 module _ {m₀ : Memory} {c₀ : Cursor} {cs : List ℕ} {m : Memory} {c : Cursor} (x : Stage m₀ c₀ cs m c) where
   pub open-row : cell (m .rows) (c₀ .rows) colEnd ≡ 0
-  open-row = x .row 11 (omega arith) ∙ x .unended
+  open-row = x .row colEnd (omega arith) ∙ x .unended
 
   pub keep-put : (j v : ℕ) → Keep m₀ c₀ (withRows m (put (m .rows) (c₀ .rows) j v)) c
   keep-put j v =
       let k = x .keep in
       record {
         rowsUp = k .rowsUp;
-        rows = λ i l. kept-set (c₀ .rows * 12) (c₀ .rows * 12 + j) v (m .rows) (omega arith) i l ∙ k .rows i l;
+        rows = λ i l. kept-set (c₀ .rows * rowWidth) (c₀ .rows * rowWidth + j) v (m .rows) (omega arith) i l ∙ k .rows i l;
         storeUp = k .storeUp;
         store = k .store;
         long = k .long;
       }
 
-  pub row-put : (j v i : ℕ) → i < 12 → cell (put (m .rows) (c₀ .rows) j v) (c₀ .rows) i ≡ getD (set cs j v) i 0
+  pub row-put : (j v i : ℕ) → i < rowWidth → cell (put (m .rows) (c₀ .rows) j v) (c₀ .rows) i ≡ getD (set cs j v) i 0
   row-put j v = cell-put (m .rows) cs (c₀ .rows) j v (x .long) (let b = x .newer in let d = x .ok .rowsIn in omega arith) (x .row)
 
-  pub stage-ext : (j v : ℕ) → j < 12 → Ext (landOf m c) (landOf (withRows m (put (m .rows) (c₀ .rows) j v)) c)
+  pub stage-ext : (j v : ℕ) → j < rowWidth → Ext (landOf m c) (landOf (withRows m (put (m .rows) (c₀ .rows) j v)) c)
   stage-ext j v h = ext-put (landOf m c) (c₀ .rows) j v open-row h
 
   -- a column of its row; its kind, where it is no object
-  pub stage-set : (j v : ℕ) → ((i : ℕ) → i < c .objects → getD (m .objects) i 0 * 12 + 0 ≢ c₀ .rows * 12 + j) → j < 11
+  pub stage-set : (j v : ℕ) → ((i : ℕ) → i < c .objects → getD (m .objects) i 0 * rowWidth + 0 ≢ c₀ .rows * rowWidth + j) → j < colEnd
       → Stage m₀ c₀ (set cs j v) (withRows m (put (m .rows) (c₀ .rows) j v)) c
   stage-set j v a b =
-      let e : 11 ≢ j = omega arith in
+      let e : colEnd ≢ j = omega arith in
       record {
         ok = ok-put (x .ok) (c₀ .rows) j v a b;
         keep = keep-put j v;
@@ -162,7 +163,7 @@ module _ {m₀ : Memory} {c₀ : Cursor} {cs : List ℕ} {m : Memory} {c : Curso
         each = λ i l h. sound-ext (stage-ext j v (omega arith)) (x .each i l h);
       }
 
-  pub stage-put : (j v : ℕ) → 0 < j → j < 11 → Stage m₀ c₀ (set cs j v) (withRows m (put (m .rows) (c₀ .rows) j v)) c
+  pub stage-put : (j v : ℕ) → 0 < j → j < colEnd → Stage m₀ c₀ (set cs j v) (withRows m (put (m .rows) (c₀ .rows) j v)) c
   stage-put j v a b = stage-set j v (λ i h. omega arith) b
 
   -- later, with what has been read meanwhile
@@ -175,7 +176,7 @@ module _ {m₀ : Memory} {c₀ : Cursor} {cs : List ℕ} {m : Memory} {c : Curso
         ok = o;
         keep = keep-trans (x .keep) k;
         newer = omega arith;
-        row = λ j h. k .rows (c₀ .rows * 12 + j) (omega arith) ∙ x .row j h;
+        row = λ j h. k .rows (c₀ .rows * rowWidth + j) (omega arith) ∙ x .row j h;
         long = x .long;
         unended = x .unended;
         each = λ i l h. elim (decLt i (c .rows)) [ yes q ↦ sound-ext (keep-ext (x .ok .storeIn) k) (x .each i l q) | no q ↦ more i (omega arith) h ];
@@ -197,7 +198,7 @@ module _ {m₀ : Memory} {c₀ : Cursor} {cs : List ℕ} {m : Memory} {c : Curso
           traits = y .traits;
           objects = λ i h. last-or (c .objects) i (λ i. Entry (landOf m c) (getD (set (m .objects) (c .objects) (c₀ .rows)) i 0))
               (λ q. rw (kept-set (c .objects) (c .objects) (c₀ .rows) (m .objects) (omega arith) i q) (y .objects i q))
-              (rw getD-set-same (record { below = x .newer; kind = rw (x .row 0 (omega arith)) o; ending = still open-row })) h;
+              (rw getD-set-same (record { below = x .newer; kind = rw (x .row colKind (omega arith)) o; ending = still open-row })) h;
         };
         keep = record { rowsUp = k .rowsUp; rows = k .rows; storeUp = k .storeUp; store = k .store; long = k .long };
         newer = x .newer;
@@ -237,10 +238,10 @@ marked-in (long v l) a b = record { mark = a; size = λ t. rw b l }
 module _ {g : Given} {m₀ : Memory} {c₀ : Cursor} {m : Memory} {c : Cursor} where
   pub val-of : {kind : ℕ} {k : Key} {cs : List ℕ} → Ok m c → Keep m₀ c₀ m c → c₀ .rows < c .rows → Meets (landOf m c) g k
       → Form (landOf m c) (c₀ .rows) kind cs
-      → getD cs 7 0 ≡ c .rows → ((j : ℕ) → j < 12 → cell (m .rows) (c₀ .rows) j ≡ getD (kind ∷ k .mark ∷ k .begin ∷ k .size ∷ cs) j 0)
+      → getD cs 7 0 ≡ c .rows → ((j : ℕ) → j < rowWidth → cell (m .rows) (c₀ .rows) j ≡ getD (kind ∷ k .mark ∷ k .begin ∷ k .size ∷ cs) j 0)
       → ((i : ℕ) → c₀ .rows < i → i < c .rows → Sound (landOf m c) i) → Val g m₀ c₀ m c
   val-of {kind} {k} {cs} o q l h f e r more =
-      let z : cell (m .rows) (c₀ .rows) colEnd ≡ c .rows = r 11 (omega arith) ∙ e in
+      let z : cell (m .rows) (c₀ .rows) colEnd ≡ c .rows = r colEnd (omega arith) ∙ e in
       record {
         ok = o;
         keep = q;
@@ -260,28 +261,28 @@ module _ {g : Given} {m₀ : Memory} {c₀ : Cursor} {m : Memory} {c : Cursor} w
   stage-close {kind} {k} {cs} x h f =
       let n = x .long in
       let a : 7 < length cs = omega arith in
-      let e = stage-ext x 11 (c .rows) (omega arith) in
-      val-of {k = k} (ok-close (x .ok) (c₀ .rows) (x .newer)) (keep-put x 11 (c .rows)) (x .newer) h (form-ext e f) (getD-set-same cs 7 (c .rows) 0 a)
-      (row-put x 11 (c .rows))
+      let e = stage-ext x colEnd (c .rows) (omega arith) in
+      val-of {k = k} (ok-close (x .ok) (c₀ .rows) (x .newer)) (keep-put x colEnd (c .rows)) (x .newer) h (form-ext e f) (getD-set-same cs 7 (c .rows) 0 a)
+      (row-put x colEnd (c .rows))
       (λ i l b. sound-ext e (x .each i l b))
 
 -- ---- a row more
 
-module _ {m : Memory} {c : Cursor} (x : Ok m c) (cs : List ℕ) (long : length cs ≡ 12) (room : c .rows * 12 + 12 ≤ length (m .rows)) where
+module _ {m : Memory} {c : Cursor} (x : Ok m c) (cs : List ℕ) (long : length cs ≡ rowWidth) (room : c .rows * rowWidth + rowWidth ≤ length (m .rows)) where
   abbrev pub grownRows : Memory
-  grownRows = withRows m (sets (m .rows) (c .rows * 12) cs)
+  grownRows = withRows m (sets (m .rows) (c .rows * rowWidth) cs)
 
   abbrev pub grownBy : Cursor
   grownBy = rowsTo c (c .rows + 1)
 
-  same-row : (i j : ℕ) → i < c .rows → j < 12 → cell (sets (m .rows) (c .rows * 12) cs) i j ≡ cell (m .rows) i j
-  same-row i j h l = kept-sets (c .rows * 12) (c .rows * 12) cs (m .rows) (omega arith) (i * 12 + j) (omega arith)
+  same-row : (i j : ℕ) → i < c .rows → j < rowWidth → cell (sets (m .rows) (c .rows * rowWidth) cs) i j ≡ cell (m .rows) i j
+  same-row i j h l = kept-sets (c .rows * rowWidth) (c .rows * rowWidth) cs (m .rows) (omega arith) (i * rowWidth + j) (omega arith)
 
   pub begin-keep : Keep m c grownRows grownBy
   begin-keep =
       record {
         rowsUp = omega arith;
-        rows = kept-sets (c .rows * 12) (c .rows * 12) cs (m .rows) (omega arith);
+        rows = kept-sets (c .rows * rowWidth) (c .rows * rowWidth) cs (m .rows) (omega arith);
         storeUp = omega arith;
         store = λ i h. refl;
         long = refl;
@@ -289,7 +290,7 @@ module _ {m : Memory} {c : Cursor} (x : Ok m c) (cs : List ℕ) (long : length c
 
   pub begin-ok : Ok grownRows grownBy
   begin-ok =
-      let e = length-sets (m .rows) (c .rows * 12) cs in
+      let e = length-sets (m .rows) (c .rows * rowWidth) cs in
       record {
         rowsIn = omega arith;
         storeIn = x .storeIn;
@@ -308,13 +309,13 @@ module _ {m : Memory} {c : Cursor} (x : Ok m c) (cs : List ℕ) (long : length c
       }
     where
       ending : (t : ℕ) → t < c .rows → Ends (landOf m c) t → Ends (landOf grownRows grownBy) t
-      ending t l (still h) = still (same-row t 11 l (omega arith) ∙ h)
-      ending t l (already h) = let a = h .1 in already (rw (same-row t 11 l (omega arith)) (h .0, omega arith))
+      ending t l (still h) = still (same-row t colEnd l (omega arith) ∙ h)
+      ending t l (already h) = let a = h .1 in already (rw (same-row t colEnd l (omega arith)) (h .0, omega arith))
 
-  pub begin-row : (j : ℕ) → j < 12 → cell (sets (m .rows) (c .rows * 12) cs) (c .rows) j ≡ getD cs j 0
-  begin-row j h = sets-in cs (m .rows) (c .rows * 12) (c .rows * 12 + j) j refl (omega arith) (omega arith)
+  pub begin-row : (j : ℕ) → j < rowWidth → cell (sets (m .rows) (c .rows * rowWidth) cs) (c .rows) j ≡ getD cs j 0
+  begin-row j h = sets-in cs (m .rows) (c .rows * rowWidth) (c .rows * rowWidth + j) j refl (omega arith) (omega arith)
 
-  pub stage-begin : getD cs 11 0 ≡ 0 → Stage m c cs grownRows grownBy
+  pub stage-begin : getD cs colEnd 0 ≡ 0 → Stage m c cs grownRows grownBy
   stage-begin u =
       record {
         ok = begin-ok;

@@ -15,17 +15,18 @@ use Rattle.format.specs.Reading.{finished, refused}
 use Rattle.format.specs.Step.{assoc, dynamics, Use, forString, forKey, forClass, forExternal, forName, forVector, xmlText, tableText}
 use Rattle.format.specs.Step.{integerWord, objectWord, sizeWord, textWord, doubleBits, dateBits, rawFlag, objectsFlag, dictionaryFlag, byteArray, rawVector}
 use Rattle.format.specs.Step.{Mode, atMarker, atWord, atNumber, atFlag, atText, atRaw, astray, State, wait, over, none}
-use Rattle.format.specs.Numbers.{Numbers, frameAt, framesOf, numbersOf, laid, bodyAt, bodyPurpose, useAt, modeOf, useWork, workOf}
-use Rattle.format.specs.Numbers.{stateOf, numbered, memoryOf}
+use Rattle.format.specs.Numbers.{Numbers, frameAt, framesOf, frameNumbers, laid, bodyPurpose, modeOf, useWork, workOf}
+use Rattle.format.specs.Numbers.{stateOf, numbersOf, memoryOf}
 use Rattle.format.proofs.Tests.{is-true}
 use Rattle.format.proofs.Lists.{kept-sets, sets-in, Kept}
+use Rattle.format.specs.Refusals as refusals
 
 -- ---- frames
 
-frame-new : (G : List ℕ) (n : ℕ) (f : Frame) → n * 6 + 6 ≤ length G → frameAt (sets G (n * 6) (numbersOf f)) n ≡ f
+frame-new : (G : List ℕ) (n : ℕ) (f : Frame) → n * 6 + 6 ≤ length G → frameAt (sets G (n * 6) (frameNumbers f)) n ≡ f
 unfolding frameAt
 frame-new G n f h =
-    let vs : List ℕ = numbersOf f in
+    let vs : List ℕ = frameNumbers f in
     rw (
       sets-in vs G (n * 6) (n * 6) 0 (omega arith) (omega arith) h,
       sets-in vs G (n * 6) (n * 6 + 1) 1 refl (omega arith) h,
@@ -56,14 +57,14 @@ frames-low G vs k (suc n) h = rw (frame-low G vs k n h, frames-low G vs k n (ome
 pub length-laid : (F : List ℕ) (fs : List Frame) → length (laid F fs) ≡ length F
 unfolding laid
 length-laid F [] = refl
-length-laid F (f ∷ fs) = length-sets (laid F fs) (length fs * 6) (numbersOf f) ∙ length-laid F fs
+length-laid F (f ∷ fs) = length-sets (laid F fs) (length fs * 6) (frameNumbers f) ∙ length-laid F fs
 
 -- frames laid in their places are read back
 pub frames-laid : (F : List ℕ) (fs : List Frame) → length fs * 6 ≤ length F → framesOf (laid F fs) (length fs) ≡ fs
 unfolding laid framesOf
 frames-laid F [] h = refl
 frames-laid F (f ∷ fs) h =
-    let vs : List ℕ = numbersOf f in
+    let vs : List ℕ = frameNumbers f in
     let l : length (laid F fs) ≡ length F = length-laid F fs in
     rw (
       frame-new (laid F fs) (length fs) f (omega arith),
@@ -77,7 +78,7 @@ frames-laid F (f ∷ fs) h =
 use-of : (u : Use) (s : Span) (left part : ℕ)
     → (modeOf (workOf (atWord (textWord u) left part)) ≡ atWord (textWord u) left part)
     × (modeOf (workOf (atText (tableText u) s left part)) ≡ atText (tableText u) s left part)
-unfolding modeOf workOf useWork useAt
+unfolding modeOf workOf useWork
 use-of (forString row) s left part = (refl, refl)
 use-of (forKey (assoc row n done)) s left part = (refl, refl)
 use-of (forKey (dynamics row done)) s left part = (refl, refl)
@@ -88,7 +89,7 @@ use-of (forVector row n) s left part = (refl, refl)
 
 -- the work of a mode is read back as that mode
 pub mode-of : (x : Mode) → modeOf (workOf x) ≡ x
-unfolding modeOf workOf bodyAt bodyPurpose
+unfolding modeOf workOf bodyPurpose
 mode-of (atMarker k) = refl
 mode-of (atWord (integerWord row) left part) = refl
 mode-of (atWord (objectWord row) left part) = refl
@@ -120,12 +121,12 @@ mode-of astray = refl
 abbrev pub Shown : State → Type 0
 Shown (wait x ts c m) = length ts ≤ openLimit
 Shown (over (finished c m)) = Unit
-Shown (over (refused number told place m)) = T (leb 1 number && leb number 12)
+Shown (over (refused number told place m)) = T (leb refusals.badLoan number && leb number refusals.lost)
 Shown (none m) = ⊥
 
-pub state-numbered : (n : Numbers) (s : State) → length (n .frames) ≡ openLimit * 6 → Shown s → stateOf (numbered n s) (memoryOf s) ≡ s
-unfolding stateOf numbered
+pub state-numbered : (n : Numbers) (s : State) → length (n .frames) ≡ openLimit * 6 → Shown s → stateOf (numbersOf n s) (memoryOf s) ≡ s
+unfolding stateOf numbersOf
 state-numbered n (wait x ts c m) l h = rw (mode-of x, frames-laid (n .frames) ts (omega arith))
 state-numbered n (over (finished c m)) l h = refl
-state-numbered n (over (refused number told place m)) l h = rw (is-true (leb 1 number && leb number 12) h)
+state-numbered n (over (refused number told place m)) l h = rw (is-true (leb refusals.badLoan number && leb number refusals.lost) h)
 state-numbered n (none m) l h = absurd h

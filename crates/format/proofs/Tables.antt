@@ -13,6 +13,7 @@ use Rattle.format.specs.Standard.{Tree, Traits, Tables}
 use Rattle.format.proofs.Lists.{Kept}
 use Rattle.format.proofs.Ground.{Land, land, at, Ext, landTo}
 use Rattle.format.proofs.Rep.{Text, Own, own-ext, text-ext}
+use Rattle.rows.specs.Memory.{rowWidth}
 
 -- ---- what the tables have to do with the loans
 
@@ -56,7 +57,7 @@ pub record Objects (O : List ℕ) (n : ℕ) (L : Land) (xs : List (Option Tree))
 -- u: how far the store is settled
 pub record Sim (u : ℕ) (m : Memory) (c : Cursor) (s : Tables) : Type 0 where
   pub limit : c .at ≤ messageLimit
-  pub rowsIn : c .rows * 12 ≤ length (m .rows)
+  pub rowsIn : c .rows * rowWidth ≤ length (m .rows)
   pub settled : u ≤ c .store
   pub storeIn : c .store ≤ length (m .store)
   pub namesIn : c .names * 2 ≤ length (m .names)
@@ -88,7 +89,7 @@ trait-ext L L′ e N N′ k k′ u h t x r =
 
 -- rows, store and names change, so that what was finished and settled stays, and what was open stays open
 module _ {u : ℕ} {m : Memory} {c : Cursor} {s : Tables} (x : Sim u m c s) (R B N : List ℕ) (a n z k v : ℕ) where
-  pub sim-grow : a ≤ messageLimit → n * 12 ≤ length R → v ≤ z → z ≤ length B → k * 2 ≤ length N → c .names ≤ k → Kept (c .names * 2) (m .names) N
+  pub sim-grow : a ≤ messageLimit → n * rowWidth ≤ length R → v ≤ z → z ≤ length B → k * 2 ≤ length N → c .names ≤ k → Kept (c .names * 2) (m .names) N
       → Ext (landTo u m c) (land R n B v) → ((r : ℕ) → r < c .rows → cell (m .rows) r colEnd ≡ 0 → cell R r colEnd ≡ 0)
       → Sim v (memory R B (m .strings) (m .objects) (m .traits) N) (cursor a n z (c .strings) (c .objects) (c .traits) k) s
   sim-grow l f g h i j p e o =

@@ -32,13 +32,14 @@ use Rattle.format.proofs.Rep.{Text}
 use Rattle.format.proofs.Tables.{Sim}
 use Rattle.format.proofs.Changes.{sim-at, sim-byte, sim-reserve, sim-settle, sim-text}
 use Rattle.format.proofs.Stage.{Quiet, quiet-of, quiet-at}
+use Rattle.format.specs.Refusals as refusals
 
 -- ---- rules
 
 module _ {whole : List ℕ} {S A B C : Type 0} {Q : C → Memory → Cursor → B → Tables → Type 0} where
   -- a refusal that only the loans make
-  pub limit : (g : S → Memory) (t : Bool) (n told p : ℕ) (o : Out S A) (m : Memory) (bs : List ℕ) (f : A → Reader C) {y : ResultOf Tables ℕ B} → 9 ≤ n
-      → n ≤ 11 → (t ≡ false → Agree whole Q (bind (decided (lift g o) m bs) f) y)
+  pub limit : (g : S → Memory) (t : Bool) (n told p : ℕ) (o : Out S A) (m : Memory) (bs : List ℕ) (f : A → Reader C) {y : ResultOf Tables ℕ B} → refusals.tooDeep ≤ n
+      → n ≤ refusals.tooLong → (t ≡ false → Agree whole Q (bind (decided (lift g o) m bs) f) y)
       → Agree whole Q (bind (decided (lift g (cond t (stop n told p) o)) m bs) f) y
   limit g true n told p o m bs f h k r = ours h k
   limit g false n told p o m bs f h k r = r refl

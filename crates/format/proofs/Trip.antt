@@ -24,6 +24,7 @@ use Rattle.format.proofs.Unfolded.{unfolded-fits}
 use Rattle.format.proofs.Finishes.{Unlimited, reading-unlimited}
 use Rattle.format.proofs.Writes.{accepted, reported}
 use Rattle.format.proofs.Again.{Wide}
+use Rattle.format.specs.Refusals as refusals
 
 -- a reading finished with n bytes taken, and its rows unfold to t
 pub record Returns (e : Ended) (n : ℕ) (t : Tree) : Type 0 where
@@ -33,13 +34,13 @@ pub record Returns (e : Ended) (n : ℕ) (t : Tree) : Type 0 where
   pub takes : cursor .at ≡ n
   pub unfolds : unfolded (usedRows cursor memory) (memory .store) 0 ≡ t
 
-is-limit : (n : ℕ) → 9 ≤ n → n ≤ 11 → limit n ≡ true
+is-limit : (n : ℕ) → refusals.tooDeep ≤ n → n ≤ refusals.tooLong → limit n ≡ true
 is-limit n lo hi =
     elim (ℕ-discrete n 9) [
       | yes e ↦ rw e
       | no a ↦ elim (ℕ-discrete n 10) [
         | yes e ↦ rw e
-        | no b ↦ let e : n ≡ 11 = omega arith in rw e
+        | no b ↦ let e : n ≡ refusals.tooLong = omega arith in rw e
       ]
     ]
 

@@ -27,6 +27,9 @@ use Rattle.format.proofs.Writable.{WritableEntries}
 use Rattle.format.proofs.Tested.{Row, tested-rows, part-short, key-length, body-length, class-mark}
 use Rattle.format.proofs.Tested.{Walk, done, next, walk-start, walk-after, walk-long, home-row, kind-is}
 use Rattle.format.proofs.Loans.{lent}
+use Rattle.rows.specs.Kinds.{kindUndefined, kindNull, kindBoolean, kindDouble, kindString, kindXmlDocument, kindXml, kindByteArray, kindIntVector}
+use Rattle.rows.specs.Kinds.{kindUintVector, kindDoubleVector, kindReference}
+use Rattle.rows.specs.Memory.{rowsMost, storeMost}
 
 -- ---- as many as the counts say
 
@@ -58,7 +61,7 @@ column-small n e = by (ltb n (2 ^ 28)) refl e
         let h : 2 ^ 64 - 2 ^ 28 ≤ n = leb-true (2 ^ 64 - 2 ^ 28) n e in
         rw (le-ltb n (2 ^ 63) (omega arith)) (omega arith)
 
-module _ (R B : List ℕ) (few : rowsIn R ≤ 16384) (small : length B ≤ 65536) (rows : (i : ℕ) → i < rowsIn R → Row R B i)
+module _ (R B : List ℕ) (few : rowsIn R ≤ rowsMost) (small : length B ≤ storeMost) (rows : (i : ℕ) → i < rowsIn R → Row R B i)
     (words : (i : ℕ) → getD R i 0 < 2 ^ 64) where
   word : (i c : ℕ) → col R i c < 2 ^ 64
   unfolding col
@@ -120,7 +123,7 @@ module _ (R B : List ℕ) (few : rowsIn R ≤ 16384) (small : length B ≤ 65536
   -- ---- one row
 
   module _ (f : ℕ → Tree) (good : (i : ℕ) → i < rowsIn R → Writable (f i)) (i : ℕ) (h : i < rowsIn R) where
-    body-short : length (bodyOf R B i) ≤ 65536
+    body-short : length (bodyOf R B i) ≤ storeMost
     body-short = omega (arith, part-short B (col R i colBodyBegin) (col R i colBodySize))
 
     integer-fits : col R i colKind ≡ kindInteger → mag (ofColumn (col R i colNumber)) < 2 ^ 28
@@ -168,7 +171,7 @@ module _ (R B : List ℕ) (few : rowsIn R ≤ 16384) (small : length B ≤ 65536
     walk : (c : ℕ) → children R i ≡ c → Walk R i (col R i colEnd) (suc i) 0 c
     walk c e = rw e at (walk-start R B rows i h)
 
-    counted : (c : ℕ) → children R i ≡ c → c < 16384
+    counted : (c : ℕ) → children R i ≡ c → c < rowsMost
     counted c e = omega (arith, walk-long R (col R i colEnd) (suc i) (children R i) (rows i h .closed), rows i h .end)
 
     array-fits : col R i colKind ≡ kindArray
@@ -223,24 +226,24 @@ module _ (R B : List ℕ) (few : rowsIn R ≤ 16384) (small : length B ≤ 65536
     unfolding node bodyWritable valueFits
     node-fits =
         kind-is (col R i colKind) 0 (omega arith) (λ e. rw e tt) λ l.
-        kind-is (col R i colKind) 1 l (λ e. rw e tt) λ l.
-        kind-is (col R i colKind) 2 l (λ e. rw e tt) λ l.
-        kind-is (col R i colKind) 3 l (λ e. rw e tt) λ l.
-        kind-is (col R i colKind) 4 l (λ e. rw e (integer-fits e)) λ l.
-        kind-is (col R i colKind) 5 l (λ e. rw e (word i colNumber)) λ l.
-        kind-is (col R i colKind) 6 l (λ e. rw e (text-fits (rw e at (rows i h .body)))) λ l.
-        kind-is (col R i colKind) 7 l (λ e. rw e (text-fits (rw e at (rows i h .body)))) λ l.
-        kind-is (col R i colKind) 8 l (λ e. rw e (date-fits e)) λ l.
-        kind-is (col R i colKind) 9 l (λ e. rw e (array-fits e)) λ l.
-        kind-is (col R i colKind) 10 l (λ e. rw e (object-fits e)) λ l.
-        kind-is (col R i colKind) 11 l (λ e. rw e (text-fits (rw e at (rows i h .body)))) λ l.
-        kind-is (col R i colKind) 12 l (λ e. rw e (short (col R i colBodyBegin) (col R i colBodySize))) λ l.
-        kind-is (col R i colKind) 13 l (λ e. rw e (raw-fits 4 (omega arith) (rw e at (rows i h .value)))) λ l.
-        kind-is (col R i colKind) 14 l (λ e. rw e (raw-fits 4 (omega arith) (rw e at (rows i h .value)))) λ l.
-        kind-is (col R i colKind) 15 l (λ e. rw e (raw-fits 8 (omega arith) (rw e at (rows i h .value)))) λ l.
-        kind-is (col R i colKind) 16 l (λ e. rw e (vector-fits e)) λ l.
-        kind-is (col R i colKind) 17 l (λ e. rw e (dictionary-fits e)) λ l.
-        kind-is (col R i colKind) 18 l (λ e. rw e tt) λ l.
+        kind-is (col R i colKind) kindUndefined l (λ e. rw e tt) λ l.
+        kind-is (col R i colKind) kindNull l (λ e. rw e tt) λ l.
+        kind-is (col R i colKind) kindBoolean l (λ e. rw e tt) λ l.
+        kind-is (col R i colKind) kindInteger l (λ e. rw e (integer-fits e)) λ l.
+        kind-is (col R i colKind) kindDouble l (λ e. rw e (word i colNumber)) λ l.
+        kind-is (col R i colKind) kindString l (λ e. rw e (text-fits (rw e at (rows i h .body)))) λ l.
+        kind-is (col R i colKind) kindXmlDocument l (λ e. rw e (text-fits (rw e at (rows i h .body)))) λ l.
+        kind-is (col R i colKind) kindDate l (λ e. rw e (date-fits e)) λ l.
+        kind-is (col R i colKind) kindArray l (λ e. rw e (array-fits e)) λ l.
+        kind-is (col R i colKind) kindObject l (λ e. rw e (object-fits e)) λ l.
+        kind-is (col R i colKind) kindXml l (λ e. rw e (text-fits (rw e at (rows i h .body)))) λ l.
+        kind-is (col R i colKind) kindByteArray l (λ e. rw e (short (col R i colBodyBegin) (col R i colBodySize))) λ l.
+        kind-is (col R i colKind) kindIntVector l (λ e. rw e (raw-fits 4 (omega arith) (rw e at (rows i h .value)))) λ l.
+        kind-is (col R i colKind) kindUintVector l (λ e. rw e (raw-fits 4 (omega arith) (rw e at (rows i h .value)))) λ l.
+        kind-is (col R i colKind) kindDoubleVector l (λ e. rw e (raw-fits 8 (omega arith) (rw e at (rows i h .value)))) λ l.
+        kind-is (col R i colKind) kindObjectVector l (λ e. rw e (vector-fits e)) λ l.
+        kind-is (col R i colKind) kindDictionary l (λ e. rw e (dictionary-fits e)) λ l.
+        kind-is (col R i colKind) kindReference l (λ e. rw e tt) λ l.
         absurd (omega (arith, rows i h .high))
 
   -- ---- every row

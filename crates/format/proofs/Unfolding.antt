@@ -19,6 +19,8 @@ use Rattle.format.proofs.Tests.{clash}
 use Rattle.format.proofs.Ground.{Land, at}
 use Rattle.format.proofs.Rep.{Face, face, flagOf, classOf, other, leaf, Head, goal, From, itself, before}
 use Rattle.format.proofs.Rep.{Own, RepT, RepP, RepE, Rep, own-head}
+use Rattle.rows.specs.Memory.{rowWidth}
+use Rattle.rows.specs.Memory.{colKeyBegin, colKeySize, colBodyBegin, colBodySize, colClassMark, colFlag, colNumber, colCount, colCount2}
 
 -- a leaf's face decides the node alone
 pick : (F : Face) (A O U D : Tree) (p : Plain) (k : ℕ) → getD
@@ -55,7 +57,7 @@ pick F A O U D p (suc (suc (suc (suc (suc (suc (suc (suc (suc (suc (suc (suc (su
 -- rows R and store B show what L has
 pub record View (L : Land) (R B : List ℕ) : Type 0 where
   pub many : rowsIn R ≡ L .used
-  pub cols : (r j : ℕ) → r < L .used → j < 12 → flatly.col R r j ≡ at L r j
+  pub cols : (r j : ℕ) → r < L .used → j < rowWidth → flatly.col R r j ≡ at L r j
   pub texts : (b z : ℕ) → b + z ≤ L .full → part B b z ≡ part (L .store) b z
 
 trees-up : (ts : Trees) (L : Land) (k e : ℕ) → RepT ts L k e → k ≤ e
@@ -74,21 +76,21 @@ entries-up (entry a b es) L k e h =
 module _ (L : Land) (R B : List ℕ) (v : View L R B) where
   home-is : (r : ℕ) → r < L .used → home R r ≡ goal L r
   unfolding home
-  home-is r h = rw (v .cols r 0 h (omega arith), v .cols r 8 h (omega arith))
+  home-is r h = rw (v .cols r colKind h (omega arith), v .cols r colNumber h (omega arith))
 
   face-is : (r : ℕ) → Head L r → (flatly.bodyOf R B r ≡ face L r .body) × (flatly.classText R B r ≡ classOf (face L r))
       × (flatly.flagSet R r ≡ flagOf (face L r))
   face-is r h =
       let u : r < L .used = (let a = h .0 in let b = h .1 in omega arith) in
-      let b : flatly.bodyOf R B r ≡ face L r .body = rw (v .cols r 4 u (omega arith), v .cols r 5 u (omega arith), v .texts _ _ (h .2)) in
-      (b, rw (v .cols r 6 u (omega arith), b), rw (v .cols r 7 u (omega arith)))
+      let b : flatly.bodyOf R B r ≡ face L r .body = rw (v .cols r colBodyBegin u (omega arith), v .cols r colBodySize u (omega arith), v .texts _ _ (h .2)) in
+      (b, rw (v .cols r colClassMark u (omega arith), b), rw (v .cols r colFlag u (omega arith)))
 
   node-plain : (f : ℕ → Tree) (r : ℕ) (p : Plain) → Head L r → leaf (face L r) ≡ plain p → node f R B r ≡ plain p
   unfolding node
   node-plain f r p h e =
       let u : r < L .used = (let a = h .0 in let b = h .1 in omega arith) in
       let x = face-is r h in
-      rw (v .cols r 0 u (omega arith), v .cols r 8 u (omega arith), x .0, x .2) (pick (face L r) _ _ _ _ p (at L r colKind) e)
+      rw (v .cols r colKind u (omega arith), v .cols r colNumber u (omega arith), x .0, x .2) (pick (face L r) _ _ _ _ p (at L r colKind) e)
 
   pairs-after : (ps : Pairs) (k e : ℕ) → RepP ps L k e → after R k (countPairs ps) ≡ e
   unfolding after countPairs
@@ -96,7 +98,7 @@ module _ (L : Land) (R B : List ℕ) (v : View L R B) where
   pairs-after (pair x t ps) k e h =
       let d = h .0 .0 in
       let u : k < L .used = (let a = d .0 in let b = d .1 in omega arith) in
-      ap (λ z. after R z (countPairs ps)) (v .cols k 11 u (omega arith)) ∙ pairs-after ps (at L k colEnd) e (h .2)
+      ap (λ z. after R z (countPairs ps)) (v .cols k colEnd u (omega arith)) ∙ pairs-after ps (at L k colEnd) e (h .2)
 
   -- the levels that row g needs: fewer the less rows come before its end, and the later it begins
   abbrev Fit : ℕ → ℕ → Type 0
@@ -128,10 +130,10 @@ module _ (L : Land) (R B : List ℕ) (v : View L R B) where
         let y = trees-up ts L (h .2 .0) (at L g colEnd) (h .2 .2) in
         let z = pairs-up ps L (suc g) (h .2 .0) (h .2 .1) in
         rw (
-          v .cols g 0 u (omega arith),
+          v .cols g colKind u (omega arith),
           i .0,
-          v .cols g 9 u (omega arith),
-          v .cols g 10 u (omega arith),
+          v .cols g colCount u (omega arith),
+          v .cols g colCount2 u (omega arith),
           i .1,
           i .2,
           add-one g,
@@ -146,10 +148,10 @@ module _ (L : Land) (R B : List ℕ) (v : View L R B) where
         let y = pairs-up qs L (h .2 .0) (at L g colEnd) (h .2 .2) in
         let z = pairs-up ps L (suc g) (h .2 .0) (h .2 .1) in
         rw (
-          v .cols g 0 u (omega arith),
+          v .cols g colKind u (omega arith),
           i .0,
-          v .cols g 9 u (omega arith),
-          v .cols g 10 u (omega arith),
+          v .cols g colCount u (omega arith),
+          v .cols g colCount2 u (omega arith),
           i .2,
           i .3,
           add-one g,
@@ -163,9 +165,9 @@ module _ (L : Land) (R B : List ℕ) (v : View L R B) where
         let u : g < L .used = (let a = h .0 .0 in let b = h .0 .1 in omega arith) in
         let i = h .1 in
         rw (
-          v .cols g 0 u (omega arith),
+          v .cols g colKind u (omega arith),
           i .0,
-          v .cols g 9 u (omega arith),
+          v .cols g colCount u (omega arith),
           i .3,
           add-one g,
           trees-tree ts (suc g) (at L g colEnd) l g (at L g colEnd) (h .2) (omega arith) (omega arith) w u,
@@ -175,9 +177,9 @@ module _ (L : Land) (R B : List ℕ) (v : View L R B) where
         let u : g < L .used = (let a = h .0 .0 in let b = h .0 .1 in omega arith) in
         let i = h .1 in
         rw (
-          v .cols g 0 u (omega arith),
+          v .cols g colKind u (omega arith),
           i .0,
-          v .cols g 9 u (omega arith),
+          v .cols g colCount u (omega arith),
           i .2,
           add-one g,
           entries-tree es (suc g) (at L g colEnd) l g (at L g colEnd) (h .2) (omega arith) (omega arith) w u,
@@ -194,7 +196,7 @@ module _ (L : Land) (R B : List ℕ) (v : View L R B) where
         let x = d .0 in
         let p = child t k l low top (h .0) a (omega arith) w u (λ l f. own-tree t (goal L k) l (h .0 .2) f) in
         let q = trees-tree ts (at L k colEnd) e l low top (h .1) (omega arith) b w u in
-        let c = v .cols k 11 n (omega arith) in
+        let c = v .cols k colEnd n (omega arith) in
         ap (λ z. cons (treeAt l R B k) (treesAt (treeAt l R B) R z (count ts))) c ∙ ap
         (λ z. cons z (treesAt (treeAt l R B) R (at L k colEnd) (count ts))) p
         ∙ ap (cons t) q
@@ -209,8 +211,8 @@ module _ (L : Land) (R B : List ℕ) (v : View L R B) where
         let z = d .0 in
         let p = child t k l low top (h .0) a (omega arith) w u (λ l f. own-tree t (goal L k) l (h .0 .2) f) in
         let q = pairs-tree ps (at L k colEnd) e l low top (h .2) (omega arith) b w u in
-        let c = v .cols k 11 n (omega arith) in
-        let r : flatly.keyText R B k ≡ x = rw (v .cols k 2 n (omega arith), v .cols k 3 n (omega arith), v .texts _ _ (h .1 .1)) (h .1 .0) in
+        let c = v .cols k colEnd n (omega arith) in
+        let r : flatly.keyText R B k ≡ x = rw (v .cols k colKeyBegin n (omega arith), v .cols k colKeySize n (omega arith), v .texts _ _ (h .1 .1)) (h .1 .0) in
         ap (λ z. pair (flatly.keyText R B k) (treeAt l R B k) (pairsAt (treeAt l R B) R B z (countPairs ps))) c
         ∙ ap (λ z. pair z (treeAt l R B k) (pairsAt (treeAt l R B) R B (at L k colEnd) (countPairs ps))) r
         ∙ ap (λ z. pair x z (pairsAt (treeAt l R B) R B (at L k colEnd) (countPairs ps))) p ∙ ap (pair x t) q
@@ -230,8 +232,8 @@ module _ (L : Land) (R B : List ℕ) (v : View L R B) where
         let p = child s k l low top (h .0) a (omega arith) w u (λ l f. own-tree s (goal L k) l (h .0 .2) f) in
         let p₁ = child t k₁ l low top (h .1) (omega arith) (omega arith) w u (λ l f. own-tree t (goal L k₁) l (h .1 .2) f) in
         let q = entries-tree es (at L k₁ colEnd) e l low top (h .2) (omega arith) b w u in
-        let c = v .cols k 11 n (omega arith) in
-        let c₁ = v .cols k₁ 11 n₁ (omega arith) in
+        let c = v .cols k colEnd n (omega arith) in
+        let c₁ = v .cols k₁ colEnd n₁ (omega arith) in
         let F : ℕ → Tree = treeAt l R B in
         ap (λ z. entry (F k) (F z) (entriesAt F R (flatly.col R z colEnd) (countEntries es))) c
         ∙ ap (λ z. entry (F k) (F k₁) (entriesAt F R z (countEntries es))) c₁

@@ -46,6 +46,9 @@ use Rattle.format.proofs.Posts.{wp-old-trait, wp-named, wp-trait-end, w
 use Rattle.format.proofs.Spans.{Only, only, wp-chars, wp-fill, wp-text}
 use Rattle.format.proofs.Heard.{stage-store, stage-at, stage-name, stage-trait, Heard, heard-old, heard-none, heard-new, text-heard}
 use Rattle.format.proofs.Children.{Loop, loop-begin, Reads, items-post, doubles-post, sealed-post, pairs-post}
+use Rattle.rows.specs.Memory.{rowWidth}
+use Rattle.rows.specs.Memory.{colKind}
+use Rattle.rows.specs.Kinds.{kindString, kindArray, kindObject, kindByteArray, kindObjectVector, kindDictionary}
 
 -- ---- a value in work: it begins at m₀ and c₀, is given g, and has the key k
 
@@ -89,7 +92,7 @@ module _ (g : Given) (k : Key) (m₀ : Memory) (c₀ : Cursor) (ok₀ : Ok m₀ 
       → Post (λ x. Only m c (put (put (m .rows) (c₀ .rows) 4 (s .begin)) (c₀ .rows) 5 (s .size))) (by (onRows (bodied (c₀ .rows) s)) m c bs)
   shows s m c bs = post-by _ m bs _ (wp-bodied (c₀ .rows) (m .rows) c s only)
 
-  string-post : (m : Memory) (c : Cursor) (bs : List ℕ) → Stage m₀ c₀ (fresh 6) m c → c .rows ≡ suc (c₀ .rows)
+  string-post : (m : Memory) (c : Cursor) (bs : List ℕ) → Stage m₀ c₀ (fresh kindString) m c → c .rows ≡ suc (c₀ .rows)
       → Post Done₀ ((reading.text (λ s. by (onRows (bodied (c₀ .rows) s))) >>=
       (λ s. by (onRows (bodied (c₀ .rows) s)) >> by (onRows (closed (c₀ .rows))))) m c bs)
   string-post m c bs x one = post-then _ _ (wp-text _ (λ s R. put (put R (c₀ .rows) 4 (s .begin)) (c₀ .rows) 5 (s .size)) shows m c
@@ -132,7 +135,7 @@ module _ (g : Given) (k : Key) (m₀ : Memory) (c₀ : Cursor) (ok₀ : Ok m₀ 
         } in
         close-post _ _ bs y (text t valid one))))))))
 
-    bytes-post : (value : Values) (n : ℕ) (bs : List ℕ) → Stage m₀ c₀ (fresh 12) m c → Post Done₀ (reading.newOf value (c₀ .rows) decide.bytes n m c bs)
+    bytes-post : (value : Values) (n : ℕ) (bs : List ℕ) → Stage m₀ c₀ (fresh kindByteArray) m c → Post Done₀ (reading.newOf value (c₀ .rows) decide.bytes n m c bs)
     unfolding reading.newOf reading.filled
     bytes-post value zero bs x = post-then _ _ (no-room m c bs (λ bs. close-post m c bs x (bytes (record { inside = omega arith; empty = λ e. refl }) one)))
     bytes-post value (suc n) bs x = post-then _ _ (room-post n m c bs (λ r bs.
@@ -175,19 +178,19 @@ module _ (g : Given) (k : Key) (m₀ : Memory) (c₀ : Cursor) (ok₀ : Ok m₀ 
   -- ---- values with children
 
   module _ (value : Values) (reads : Reads value) where
-    array-post : (n : ℕ) (m : Memory) (c : Cursor) (bs : List ℕ) → Stage m₀ c₀ (fresh 9) m c → c .rows ≡ suc (c₀ .rows)
+    array-post : (n : ℕ) (m : Memory) (c : Cursor) (bs : List ℕ) → Stage m₀ c₀ (fresh kindArray) m c → c .rows ≡ suc (c₀ .rows)
         → Post Done₀ (reading.newOf value (c₀ .rows) decide.array n m c bs)
     unfolding reading.newOf
     array-post n m c bs x one = post-then _ _ (post-then _ _ (
-        post-map _ (pairs-post value reads m₀ c₀ (fresh 9) (landOf m c) (c .rows) 9 (omega arith) (omega arith) messageLimit 0 m c bs (loop-begin x))
+        post-map _ (pairs-post value reads m₀ c₀ (fresh kindArray) (landOf m c) (c .rows) 9 (omega arith) (omega arith) messageLimit 0 m c bs (loop-begin x))
         (λ u m₁ c₁ p bs.
-        post-map _ (items-post value reads m₀ c₀ (set (fresh 9) 9 (p .0)) (landOf m₁ c₁) (c₁ .rows) 10 (omega arith) (omega arith) n m₁ c₁ bs
+        post-map _ (items-post value reads m₀ c₀ (set (fresh kindArray) 9 (p .0)) (landOf m₁ c₁) (c₁ .rows) 10 (omega arith) (omega arith) n m₁ c₁ bs
         (loop-begin (p .1 .stage)))
         (λ u m₂ c₂ q bs.
         close-post m₂ c₂ bs (q .1 .stage)
         (array (run-as (run-ext (q .1 .ext) (p .1 .kids)) one (omega arith)) (run-as (q .1 .kids) refl (omega arith)))))))
 
-    dictionary-post : (n : ℕ) (m : Memory) (c : Cursor) (bs : List ℕ) → Stage m₀ c₀ (fresh 17) m c → c .rows ≡ suc (c₀ .rows)
+    dictionary-post : (n : ℕ) (m : Memory) (c : Cursor) (bs : List ℕ) → Stage m₀ c₀ (fresh kindDictionary) m c → c .rows ≡ suc (c₀ .rows)
         → Post Done₀ (reading.newOf value (c₀ .rows) decide.dictionary n m c bs)
     unfolding reading.newOf
     dictionary-post n m c bs x one = post-then _ _ (wp-byte m c bs (λ b bs. post-then _ _
@@ -220,7 +223,7 @@ module _ (g : Given) (k : Key) (m₀ : Memory) (c₀ : Cursor) (ok₀ : Ok m₀ 
         (λ e bs. vector-rest n _ _ bs (stage-class x 0 0 0) one l classless)
         (λ e bs. vector-rest n _ _ bs (stage-class x 1 (s .begin) (s .size)) one l (class v (q ∙ e))))))
 
-    vector-post : (n : ℕ) (m : Memory) (c : Cursor) (bs : List ℕ) → Stage m₀ c₀ (fresh 16) m c → c .rows ≡ suc (c₀ .rows)
+    vector-post : (n : ℕ) (m : Memory) (c : Cursor) (bs : List ℕ) → Stage m₀ c₀ (fresh kindObjectVector) m c → c .rows ≡ suc (c₀ .rows)
         → Post Done₀ (reading.newOf value (c₀ .rows) decide.objects n m c bs)
     unfolding reading.newOf
     vector-post n m c bs x one = post-then _ _ (wp-byte m c bs (λ b bs. post-then _ _
@@ -275,10 +278,10 @@ module _ (g : Given) (k : Key) (m₀ : Memory) (c₀ : Cursor) (ok₀ : Ok m₀ 
     abbrev shown : Trait → Memory → Memory
     shown t m = withRows m (put (put (put (m .rows) (c₀ .rows) 6 (cond (eqb (t .size) 0) 0 1)) (c₀ .rows) 4 (t .begin)) (c₀ .rows) 5 (t .size))
 
-    class-stage : (t : Trait) (m : Memory) (c : Cursor) → Stage m₀ c₀ (fresh 10) m c → Stage m₀ c₀ (classed t) (shown t m) c
+    class-stage : (t : Trait) (m : Memory) (c : Cursor) → Stage m₀ c₀ (fresh kindObject) m c → Stage m₀ c₀ (classed t) (shown t m) c
     class-stage t m c x = stage-class x (cond (eqb (t .size) 0) 0 1) (t .begin) (t .size)
 
-    inlined-post : (t : Trait) (m : Memory) (c : Cursor) (bs : List ℕ) → Stage m₀ c₀ (fresh 10) m c → c .rows ≡ suc (c₀ .rows)
+    inlined-post : (t : Trait) (m : Memory) (c : Cursor) (bs : List ℕ) → Stage m₀ c₀ (fresh kindObject) m c → c .rows ≡ suc (c₀ .rows)
         → Valid (landOf m c) (classOf t)
         → Post Done₀ (reading.inlined value (c₀ .rows) t m c bs)
     unfolding reading.inlined
@@ -294,10 +297,10 @@ module _ (g : Given) (k : Key) (m₀ : Memory) (c₀ : Cursor) (ok₀ : Ok m₀ 
     target : {t e : ℕ} {m m₁ : Memory} {c c₁ : Cursor} → Keep m₀ c₀ m c → Keep m₀ c₀ m₁ c₁ → Entry (landOf m₀ c₀) t → Ends (landOf m₀ c₀) t
         → (cell (m .rows) t colEnd ≡ 0 → ⊥)
         → e ≡ suc (c₀ .rows) → Form (landOf m₁ c₁) (c₀ .rows) 18 (0 ∷ 0 ∷ 0 ∷ 0 ∷ t ∷ 0 ∷ 0 ∷ e ∷ [])
-    target {t} k l h (still z) n e = let b = h .below in absurd (n (k .rows (t * 12 + 11) (omega arith) ∙ z))
+    target {t} k l h (still z) n e = let b = h .below in absurd (n (k .rows (t * rowWidth + colEnd) (omega arith) ∙ z))
     target {t} k l h (already d) n e =
         let x = keep-ext (ok₀ .storeIn) l in
-        reference (h .below) (done-ext x t d) (rw (x .cols t 11 d (omega arith)) (d .1)) (rw (x .cols t 0 d (omega arith)) (h .kind)) e
+        reference (h .below) (done-ext x t d) (rw (x .cols t colEnd d (omega arith)) (d .1)) (rw (x .cols t colKind d (omega arith)) (h .kind)) e
 
     -- as it is before its row enters the objects: they are those of the beginning
     referred-post : {q : ℕ} (i : ℕ) (m : Memory) (c : Cursor) (bs : List ℕ) → Stage m₀ c₀ (fresh q) m c → c .rows ≡ suc (c₀ .rows)
@@ -311,7 +314,7 @@ module _ (g : Given) (k : Key) (m₀ : Memory) (c₀ : Cursor) (ok₀ : Ok m₀ 
         entry : (j : ℕ) → j < c .objects → Entry (landOf m₀ c₀) (getD (m .objects) j 0)
         entry j l = rw o (ok₀ .objects j (rw n at l))
 
-        free : (j : ℕ) → j < c .objects → getD (m .objects) j 0 * 12 + 0 ≢ c₀ .rows * 12 + 0
+        free : (j : ℕ) → j < c .objects → getD (m .objects) j 0 * rowWidth + 0 ≢ c₀ .rows * rowWidth + 0
         free j l = let b = (entry j l) .below in omega arith
 
     -- ---- by the word
@@ -322,7 +325,7 @@ module _ (g : Given) (k : Key) (m₀ : Memory) (c₀ : Cursor) (ok₀ : Ok m₀ 
         → Post Q (decided (onObjects (entered (c₀ .rows)) m c) m bs)
     enter-post m c bs x o h = post-by _ m bs _ (wp-entered c (c₀ .rows) (m .objects) (λ l. h _ _ (stage-enter x o l) refl))
 
-    object-post : (z : Shape) (m : Memory) (c : Cursor) (bs : List ℕ) → Stage m₀ c₀ (fresh 10) m c → c .rows ≡ suc (c₀ .rows) → m .objects ≡ m₀ .objects
+    object-post : (z : Shape) (m : Memory) (c : Cursor) (bs : List ℕ) → Stage m₀ c₀ (fresh kindObject) m c → c .rows ≡ suc (c₀ .rows) → m .objects ≡ m₀ .objects
         → c .objects ≡ c₀ .objects
         → Post Done₀ (reading.objectOf value (c₀ .rows) z m c bs)
     unfolding reading.objectOf
@@ -399,9 +402,9 @@ val-at a v =
 
 -- a value whose marker is there
 module _ (value : Values) (reads : Reads value) (g : Given) (k : Key) (m : Memory) (c : Cursor) (ok : Ok m c) (meets : Meets (landOf m c) g k)
-    (room : c .rows * 12 + 12 ≤ length (m .rows)) where
+    (room : c .rows * rowWidth + rowWidth ≤ length (m .rows)) where
   leaf-val : {q v : ℕ} → Number q v
-      → Val g m c (withRows m (sets (m .rows) (c .rows * 12) (q ∷ k .mark ∷ k .begin ∷ k .size ∷ 0 ∷ 0 ∷ 0 ∷ 0 ∷ v ∷ 0 ∷ 0 ∷ (c .rows + 1) ∷ [])))
+      → Val g m c (withRows m (sets (m .rows) (c .rows * rowWidth) (q ∷ k .mark ∷ k .begin ∷ k .size ∷ 0 ∷ 0 ∷ 0 ∷ 0 ∷ v ∷ 0 ∷ 0 ∷ (c .rows + 1) ∷ [])))
       (rowsTo c (c .rows + 1))
   leaf-val {q} {v} n =
       let cs : List ℕ = q ∷ k .mark ∷ k .begin ∷ k .size ∷ 0 ∷ 0 ∷ 0 ∷ 0 ∷ v ∷ 0 ∷ 0 ∷ (c .rows + 1) ∷ [] in
@@ -410,14 +413,14 @@ module _ (value : Values) (reads : Reads value) (g : Given) (k : Key) (m : Memor
 
   -- no leaf
   opened : {b : ℕ} {kind : decide.Kind} (bs : List ℕ) → Marks b kind → 4 ≤ b
-      → Post (λ x. Val g m c) (reading.marked value (c .rows) kind (withRows m (sets (m .rows) (c .rows * 12) (newRow b k (c .rows))))
+      → Post (λ x. Val g m c) (reading.marked value (c .rows) kind (withRows m (sets (m .rows) (c .rows * rowWidth) (newRow b k (c .rows))))
       (rowsTo c (c .rows + 1)) bs)
   opened {b} bs t h =
       let cs : List ℕ = b ∷ k .mark ∷ k .begin ∷ k .size ∷ 0 ∷ 0 ∷ 0 ∷ 0 ∷ 0 ∷ 0 ∷ 0 ∷ 0 ∷ [] in
       rw (new-row b k (c .rows) h) (marked-post g k m c ok meets value reads t _ _ bs h (stage-begin ok cs refl room refl) (omega arith) refl refl)
 
   begun : {b : ℕ} {kind : decide.Kind} (bs : List ℕ) → Marks b kind
-      → Post (λ x. Val g m c) (reading.marked value (c .rows) kind (withRows m (sets (m .rows) (c .rows * 12) (newRow b k (c .rows))))
+      → Post (λ x. Val g m c) (reading.marked value (c .rows) kind (withRows m (sets (m .rows) (c .rows * rowWidth) (newRow b k (c .rows))))
       (rowsTo c (c .rows + 1)) bs)
   unfolding newRow reading.marked
   begun bs atUndefined = gets (leaf-val undefined)

@@ -29,13 +29,16 @@ use Rattle.format.proofs.Texts.{limit}
 use Rattle.format.proofs.Ends.{NewAlike, opening, rowed, rowedTo, begins, leaf-val, enter-then, refer-alike}
 use Rattle.format.proofs.Plains.{integer-alike, double-alike, string-alike, date-alike, xml-alike, bytes-alike, raw-alike}
 use Rattle.format.proofs.Holders.{shape-marked, array-alike, vector-alike, dictionary-alike, object-alike}
+use Rattle.rows.specs.Memory.{rowWidth}
+use Rattle.rows.specs.Kinds.{kindInteger, kindDouble, kindString, kindXmlDocument, kindDate, kindArray, kindObject, kindXml, kindByteArray, kindIntVector}
+use Rattle.rows.specs.Kinds.{kindUintVector, kindDoubleVector, kindObjectVector, kindDictionary}
 
 -- one marker, where the values that a value may hold are read alike
 module _ (whole : List ℕ) (octets : Bytes whole) (value : Values) (tree : Std Tree) (f : ℕ) (fuel : length whole < f) (low : ℕ)
     (ih : (k : Key) (m : Memory) (c : Cursor) (s : Tables) (bs : List ℕ) → Sim (c .store) m c s → Left whole (c .at) bs → low ≤ c .at
     → Agree whole (Val m c k) (value k m c bs) (tree s (c .at) bs)) (k : Key) (m : Memory) (c : Cursor) (s : Tables) (bs : List ℕ)
     (x : Sim (c .store) m c s)
-    (i : suc (c .at) ≤ messageLimit) (l : Left whole (suc (c .at)) bs) (w : low ≤ suc (c .at)) (q : c .rows * 12 + 12 ≤ length (m .rows)) where
+    (i : suc (c .at) ≤ messageLimit) (l : Left whole (suc (c .at)) bs) (w : low ≤ suc (c .at)) (q : c .rows * rowWidth + rowWidth ≤ length (m .rows)) where
   starts : (b : ℕ) → Stage false m c (opening b k) (c .store) (rowed m c (opening b k)) (rowedTo c) s
   starts b = begins x i q (opening b k) refl refl
 
@@ -78,31 +81,31 @@ module _ (whole : List ℕ) (octets : Bytes whole) (value : Values) (tree : Std 
   by-marker (suc zero) h = fine l (leaf-val x i q k (newRow 1 k (c .rows)) null refl refl refl refl refl refl)
   by-marker (suc (suc zero)) h = fine l (leaf-val x i q k (newRow 2 k (c .rows)) (boolean false) refl refl refl refl refl refl)
   by-marker (suc (suc (suc zero))) h = fine l (leaf-val x i q k (newRow 3 k (c .rows)) (boolean true) refl refl refl refl refl refl)
-  by-marker (suc (suc (suc (suc zero)))) h = integer-alike whole octets value tree f k bs l (omega arith) (starts 4)
-  by-marker (suc (suc (suc (suc (suc zero))))) h = double-alike whole octets value tree f k bs l (omega arith) (starts 5)
-  by-marker (suc (suc (suc (suc (suc (suc zero)))))) h = string-alike whole octets value tree f k bs l (omega arith) (starts 6)
-  by-marker (suc (suc (suc (suc (suc (suc (suc zero))))))) h = sized-alike 7 dec.xml
-      (λ n m₁ c₁ s₁ bs x e a b l. xml-alike whole octets value tree f k bs l a 7 n (λ F e. rw e) x) (starts 7)
-  by-marker (suc (suc (suc (suc (suc (suc (suc (suc zero)))))))) h = sized-alike 8 dec.date
-      (λ n m₁ c₁ s₁ bs x e a b l. date-alike whole octets value tree f k bs l a n x) (starts 8)
-  by-marker (suc (suc (suc (suc (suc (suc (suc (suc (suc zero))))))))) h = sized-alike 9 dec.array
-      (λ n m₁ c₁ s₁ bs x e a b l. array-alike whole octets value tree f fuel low ih k n m₁ c₁ s₁ bs x e a b l) (starts 9)
-  by-marker (suc (suc (suc (suc (suc (suc (suc (suc (suc (suc zero)))))))))) h = objects (starts 10)
-  by-marker (suc (suc (suc (suc (suc (suc (suc (suc (suc (suc (suc zero))))))))))) h = sized-alike 11 dec.xml
-      (λ n m₁ c₁ s₁ bs x e a b l. xml-alike whole octets value tree f k bs l a 11 n (λ F e. rw e) x) (starts 11)
-  by-marker (suc (suc (suc (suc (suc (suc (suc (suc (suc (suc (suc (suc zero)))))))))))) h = sized-alike 12 dec.bytes
-      (λ n m₁ c₁ s₁ bs x e a b l. bytes-alike whole octets value tree f k bs l a n x) (starts 12)
-  by-marker (suc (suc (suc (suc (suc (suc (suc (suc (suc (suc (suc (suc (suc zero))))))))))))) h = sized-alike 13 (dec.raw dec.four)
-      (λ n m₁ c₁ s₁ bs x e a b l. raw-alike whole octets value tree f k bs l a 13 n dec.four (λ F e. rw e) x) (starts 13)
-  by-marker (suc (suc (suc (suc (suc (suc (suc (suc (suc (suc (suc (suc (suc (suc zero)))))))))))))) h = sized-alike 14 (dec.raw dec.four)
-      (λ n m₁ c₁ s₁ bs x e a b l. raw-alike whole octets value tree f k bs l a 14 n dec.four (λ F e. rw e) x) (starts 14)
-  by-marker (suc (suc (suc (suc (suc (suc (suc (suc (suc (suc (suc (suc (suc (suc (suc zero))))))))))))))) h = sized-alike 15 (dec.raw dec.eight)
-      (λ n m₁ c₁ s₁ bs x e a b l. raw-alike whole octets value tree f k bs l a 15 n dec.eight (λ F e. rw e) x) (starts 15)
-  by-marker (suc (suc (suc (suc (suc (suc (suc (suc (suc (suc (suc (suc (suc (suc (suc (suc zero)))))))))))))))) h = sized-alike 16 dec.objects
-      (λ n m₁ c₁ s₁ bs x e a b l. vector-alike whole octets value tree f fuel low ih k n m₁ c₁ s₁ bs x e a b l) (starts 16)
+  by-marker (suc (suc (suc (suc zero)))) h = integer-alike whole octets value tree f k bs l (omega arith) (starts kindInteger)
+  by-marker (suc (suc (suc (suc (suc zero))))) h = double-alike whole octets value tree f k bs l (omega arith) (starts kindDouble)
+  by-marker (suc (suc (suc (suc (suc (suc zero)))))) h = string-alike whole octets value tree f k bs l (omega arith) (starts kindString)
+  by-marker (suc (suc (suc (suc (suc (suc (suc zero))))))) h = sized-alike kindXmlDocument dec.xml
+      (λ n m₁ c₁ s₁ bs x e a b l. xml-alike whole octets value tree f k bs l a kindXmlDocument n (λ F e. rw e) x) (starts kindXmlDocument)
+  by-marker (suc (suc (suc (suc (suc (suc (suc (suc zero)))))))) h = sized-alike kindDate dec.date
+      (λ n m₁ c₁ s₁ bs x e a b l. date-alike whole octets value tree f k bs l a n x) (starts kindDate)
+  by-marker (suc (suc (suc (suc (suc (suc (suc (suc (suc zero))))))))) h = sized-alike kindArray dec.array
+      (λ n m₁ c₁ s₁ bs x e a b l. array-alike whole octets value tree f fuel low ih k n m₁ c₁ s₁ bs x e a b l) (starts kindArray)
+  by-marker (suc (suc (suc (suc (suc (suc (suc (suc (suc (suc zero)))))))))) h = objects (starts kindObject)
+  by-marker (suc (suc (suc (suc (suc (suc (suc (suc (suc (suc (suc zero))))))))))) h = sized-alike kindXml dec.xml
+      (λ n m₁ c₁ s₁ bs x e a b l. xml-alike whole octets value tree f k bs l a kindXml n (λ F e. rw e) x) (starts kindXml)
+  by-marker (suc (suc (suc (suc (suc (suc (suc (suc (suc (suc (suc (suc zero)))))))))))) h = sized-alike kindByteArray dec.bytes
+      (λ n m₁ c₁ s₁ bs x e a b l. bytes-alike whole octets value tree f k bs l a n x) (starts kindByteArray)
+  by-marker (suc (suc (suc (suc (suc (suc (suc (suc (suc (suc (suc (suc (suc zero))))))))))))) h = sized-alike kindIntVector (dec.raw dec.four)
+      (λ n m₁ c₁ s₁ bs x e a b l. raw-alike whole octets value tree f k bs l a 13 n dec.four (λ F e. rw e) x) (starts kindIntVector)
+  by-marker (suc (suc (suc (suc (suc (suc (suc (suc (suc (suc (suc (suc (suc (suc zero)))))))))))))) h = sized-alike kindUintVector (dec.raw dec.four)
+      (λ n m₁ c₁ s₁ bs x e a b l. raw-alike whole octets value tree f k bs l a 14 n dec.four (λ F e. rw e) x) (starts kindUintVector)
+  by-marker (suc (suc (suc (suc (suc (suc (suc (suc (suc (suc (suc (suc (suc (suc (suc zero))))))))))))))) h = sized-alike kindDoubleVector (dec.raw dec.eight)
+      (λ n m₁ c₁ s₁ bs x e a b l. raw-alike whole octets value tree f k bs l a 15 n dec.eight (λ F e. rw e) x) (starts kindDoubleVector)
+  by-marker (suc (suc (suc (suc (suc (suc (suc (suc (suc (suc (suc (suc (suc (suc (suc (suc zero)))))))))))))))) h = sized-alike kindObjectVector dec.objects
+      (λ n m₁ c₁ s₁ bs x e a b l. vector-alike whole octets value tree f fuel low ih k n m₁ c₁ s₁ bs x e a b l) (starts kindObjectVector)
   by-marker (suc (suc (suc (suc (suc (suc (suc (suc (suc (suc (suc (suc (suc (suc (suc (suc (suc zero))))))))))))))))) h =
-      sized-alike 17 dec.dictionary (λ n m₁ c₁ s₁ bs x e a b l. dictionary-alike whole octets value tree f fuel low ih k n m₁ c₁ s₁ bs x e a b l)
-      (starts 17)
+      sized-alike kindDictionary dec.dictionary (λ n m₁ c₁ s₁ bs x e a b l. dictionary-alike whole octets value tree f fuel low ih k n m₁ c₁ s₁ bs x e a b l)
+      (starts kindDictionary)
   by-marker (suc (suc (suc (suc (suc (suc (suc (suc (suc (suc (suc (suc (suc (suc (suc (suc (suc (suc b)))))))))))))))))) h = absurd (omega arith)
 
 -- a value where so many may open; the standard has fuel for more bytes than are left
@@ -114,18 +117,18 @@ module _ (whole : List ℕ) (octets : Bytes whole) (f : ℕ) (fuel : length whol
   value-alike (suc left) zero k m c s bs x l w = let h = l .within in absurd (omega arith)
   value-alike zero (suc d) k m c s bs x l w = byte-then whole octets m s c bs _ _ l (λ b bs l o i.
       let h = x .rowsIn in
-      rw (le-ltb (length (m .rows) / 12) (c .rows) (omega arith)) (elim (decLt 17 b) [
+      rw (le-ltb (length (m .rows) / rowWidth) (c .rows) (omega arith)) (elim (decLt 17 b) [
         | yes g ↦ rw (lt-ltb 17 b g) (both (lit≤ tt) (lit≤ tt))
         | no g ↦ rw (le-ltb 17 b (omega arith)) (ours (lit≤ tt) (lit≤ tt))
       ]))
   value-alike (suc left) (suc d) k m c s bs x l w = byte-then whole octets m s c bs _ _ l (λ b bs l o i.
       let h = x .rowsIn in
-      rw (le-ltb (length (m .rows) / 12) (c .rows) (omega arith)) (elim (decLt 17 b) [
+      rw (le-ltb (length (m .rows) / rowWidth) (c .rows) (omega arith)) (elim (decLt 17 b) [
         | yes g ↦ rw (lt-ltb 17 b g) (both (lit≤ tt) (lit≤ tt))
         | no g ↦
             rw (le-ltb 17 b (omega arith), ne-eqb (suc left) 0 (λ e. omega arith))
-            (limit (λ R. withRows m R) (leb (length (m .rows) / 12) (c .rows)) 10 1 (suc (c .at)) _ m bs _ (lit≤ tt) (lit≤ tt) (λ q.
-            let p = leb-false (length (m .rows) / 12) (c .rows) q in
+            (limit (λ R. withRows m R) (leb (length (m .rows) / rowWidth) (c .rows)) 10 1 (suc (c .at)) _ m bs _ (lit≤ tt) (lit≤ tt) (λ q.
+            let p = leb-false (length (m .rows) / rowWidth) (c .rows) q in
             by-marker whole octets (our.value left) (std.value f d) f fuel (suc (length whole) - d)
             (λ k m c s bs x l w. value-alike left d k m c s bs x l (omega arith)) k m c s bs x i l (omega arith) (omega arith) b (omega arith)))
       ]))

@@ -13,7 +13,7 @@ use Rattle.rows.specs.Memory.{openLimit, faultOf, memory}
 use Rattle.format.specs.Standard.{Tree, encode}
 use Rattle.format.specs.Unfold.{unfolded}
 use Rattle.format.specs.RowTest.{Tested, fine, faulty, tested}
-use Rattle.format.specs.Writing.{bytesOf, isDeep, emit, Wrote, written, unwritten, settle, afterTest, afterFault, writing}
+use Rattle.format.specs.Writing.{streamBytes, isDeep, emit, Wrote, written, unwritten, settle, afterTest, afterFault, writing}
 use Rattle.format.proofs.Tests.{clash}
 use Rattle.format.proofs.Parts.{depth}
 use Rattle.format.proofs.Emit.{begins-prefix, emit-whole, emit-deep, Nested, nested-deep, emit-stop}
@@ -43,26 +43,26 @@ pub data Outcome (R B out : List ℕ) : Wrote → Type 0 where
 
 -- ---- the end of a tree's writing
 
-stop-first : (n : ℕ) (t : Tree) → isDeep (emit n t) ≡ true → First n t (bytesOf (emit n t))
+stop-first : (n : ℕ) (t : Tree) → isDeep (emit n t) ≡ true → First n t (streamBytes (emit n t))
 stop-first n t e =
     record {
       value = emit-stop n t e .0;
       nested = emit-stop n t e .1;
-      first = λ u y h. let (rest, g) = begins-prefix (nested-deep n t u y h .1) in rw g (omega (arith, length-append (bytesOf (emit n t)) rest));
+      first = λ u y h. let (rest, g) = begins-prefix (nested-deep n t u y h .1) in rw g (omega (arith, length-append (streamBytes (emit n t)) rest));
     }
 
-first-length : (n : ℕ) (t : Tree) (x : List ℕ) → First n t x → (isDeep (emit n t) ≡ true) × (length x ≡ length (bytesOf (emit n t)))
+first-length : (n : ℕ) (t : Tree) (x : List ℕ) → First n t x → (isDeep (emit n t) ≡ true) × (length x ≡ length (streamBytes (emit n t)))
 first-length n t x f =
     let d = nested-deep n t (f .value) x (f .nested) in
     let (rest, g) = begins-prefix (d .1) in
-    let l : length x ≤ length (bytesOf (emit n t)) = f .first _ _ (emit-stop n t (d .0) .1) in
-    (d .0, omega (arith, ap length g, length-append (bytesOf (emit n t)) rest))
+    let l : length x ≤ length (streamBytes (emit n t)) = f .first _ _ (emit-stop n t (d .0) .1) in
+    (d .0, omega (arith, ap length g, length-append (streamBytes (emit n t)) rest))
 
 module _ (t : Tree) (out : List ℕ) where
   settled : settle (emit openLimit t) out
-      ≡ cond (leb (length (bytesOf (emit openLimit t))) (length out))
-      (cond (isDeep (emit openLimit t)) (unwritten 9 0 (length (bytesOf (emit openLimit t))) out)
-      (written (length (bytesOf (emit openLimit t))) (bytesOf (emit openLimit t) ++ drop (length (bytesOf (emit openLimit t))) out)))
+      ≡ cond (leb (length (streamBytes (emit openLimit t))) (length out))
+      (cond (isDeep (emit openLimit t)) (unwritten 9 0 (length (streamBytes (emit openLimit t))) out)
+      (written (length (streamBytes (emit openLimit t))) (streamBytes (emit openLimit t) ++ drop (length (streamBytes (emit openLimit t))) out)))
       (unwritten 10 7 (length out) out)
   unfolding settle
   settled = refl
@@ -92,9 +92,9 @@ module _ (t : Tree) (out : List ℕ) where
           | no l ↦ (let h : Ends t out _ = full d (omega arith) in rw (ends-is h) h)
         ]
         | no d ↦
-            (let f : First openLimit t (bytesOf (emit openLimit t)) =
+            (let f : First openLimit t (streamBytes (emit openLimit t)) =
             stop-first openLimit t (emit-deep openLimit t ∙ lt-ltb openLimit (depth t) (omega arith)) in
-            elim (decLe (length (bytesOf (emit openLimit t))) (length out)) [
+            elim (decLe (length (streamBytes (emit openLimit t))) (length out)) [
               | yes l ↦ (let h : Ends t out _ = tooDeep _ f l in rw (ends-is h) h)
               | no l ↦ (let h : Ends t out _ = fullBefore _ f (omega arith) in rw (ends-is h) h)
             ])

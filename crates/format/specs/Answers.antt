@@ -6,6 +6,7 @@ use lib.Dec.{eqb}
 use lib.ListN.{replicate}
 use Rattle.rows.specs.declared.Cursor.{Cursor}
 use Rattle.rows.specs.Memory.{Memory, fresh, openLimit}
+use Rattle.format.specs.Refusals as no
 use Rattle.format.specs.declared.Answer.{Answer}
 use Rattle.format.specs.declared.Answer.the-variants.{Waiting, Finished, Refused}
 use Rattle.format.specs.declared.Written.{Written}
@@ -29,7 +30,7 @@ abbrev pub answerOf : State → ℕ → Answer
 answerOf (wait x ts c m) n = Waiting n
 answerOf (over (finished c m)) n = Finished (c .rows) (c .store) n
 answerOf (over (refused number told place m)) n = Refused number told place n
-answerOf (none m) n = Refused 12 0 0 n
+answerOf (none m) n = Refused no.lost 0 0 n
 
 abbrev pub answered : Held → ℕ → Fed
 answered (held s m) n = fed (answerOf (stateOf s m) n) s m
@@ -51,7 +52,7 @@ runHeld h (b ∷ bs) = runHeld (byteStep b h) bs
 abbrev pub cost : State → ℕ
 cost (wait x ts c m) = 1
 cost (over (finished c m)) = 1
-cost (over (refused number told place m)) = cond (eqb number 11 || eqb number 12) 0 1
+cost (over (refused number told place m)) = cond (eqb number no.tooLong || eqb number no.lost) 0 1
 cost (none m) = 0
 
 -- a state that doesn't wait takes nothing

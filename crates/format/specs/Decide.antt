@@ -17,6 +17,8 @@ use Rattle.wire.specs.declared.Date.{Date}
 use Rattle.wire.specs.declared.Date.the-variants.{Millis, Refused}
 use Rattle.wire.specs.Sign.{integerOf, columnOf}
 use Rattle.wire.specs.Date.{dateOf}
+use Rattle.format.specs.Refusals as no
+use Rattle.rows.specs.Memory.{loanRows, loanStore, loanStrings, loanObjects, loanTraits, loanNames}
 
 -- refused: number, told value and place; or a result, the loans that it wrote, and the cursor
 pub data Out (S A : Type 0) : Type 0 where
@@ -29,7 +31,7 @@ refuse number told c = stop number told (c .at)
 
 -- the state doesn't hold together
 abbrev pub lost : {S A : Type 0} → Out S A
-lost = stop 12 0 0
+lost = stop no.lost 0 0
 
 -- ---- the cursor with one count changed
 
@@ -85,9 +87,9 @@ newRow b k row =
 unfoldable pub marker : Key → ℕ → ℕ → List ℕ → Cursor → Out (List ℕ) ℕ
 marker k left b R c =
     cond (ltb (length R / rowWidth) (c .rows)) lost
-    (cond (ltb 0x11 b) (refuse 3 b c)
-    (cond (eqb left 0) (refuse 9 0 c)
-    (cond (leb (length R / rowWidth) (c .rows)) (refuse 10 1 c)
+    (cond (ltb 0x11 b) (refuse no.badMarker b c)
+    (cond (eqb left 0) (refuse no.tooDeep 0 c)
+    (cond (leb (length R / rowWidth) (c .rows)) (refuse no.noRoom loanRows c)
     (give (c .rows) (sets R (c .rows * rowWidth) (newRow b k (c .rows))) (rowsTo c (c .rows + 1))))))
 
 -- ---- a row goes on
@@ -109,7 +111,7 @@ integerEnd row w = numbered row (columnOf (integerOf w))
 
 -- a date's eight bytes (12; 7)
 abbrev pub dated : ℕ → ℕ → Date → List ℕ → Cursor → Out (List ℕ) Unit
-dated row bits Refused R c = refuse 7 bits c
+dated row bits Refused R c = refuse no.badDate bits c
 dated row bits (Millis n) R c = numbered row n R c
 
 unfoldable pub dateEnd : ℕ → ℕ → List ℕ → Cursor → Out (List ℕ) Unit
@@ -158,14 +160,14 @@ grown row w s n R c = inRow row (λ R. put R row colCount ((s .size - n) / width
 unfoldable pub oldText : ℕ → List ℕ → Cursor → Out Unit Span
 oldText i T c =
     cond (ltb (length T / spanWidth) (c .strings)) lost
-    (cond (leb (c .strings) i) (refuse 4 i c)
+    (cond (leb (c .strings) i) (refuse no.noEntry i c)
     (cond (spanUsed c (spanAt T i)) (give (spanAt T i) tt c) lost))
 
 -- room for n bytes is reserved before they come (12; 10/2)
 unfoldable pub reserved : ℕ → List ℕ → Cursor → Out Unit Span
 reserved n B c =
     cond (ltb (length B) (c .store)) lost
-    (cond (ltb (length B) (c .store + n)) (refuse 10 2 c)
+    (cond (ltb (length B) (c .store + n)) (refuse no.noRoom loanStore c)
     (give (span (c .store) n) tt (storeTo c (c .store + n))))
 
 -- a byte of a span, n more to come after it (12)
@@ -177,18 +179,18 @@ stored s n b B c =
 
 -- a text's last byte: the verdict on it (8)
 unfoldable pub judged : Bool → Cursor → Out Unit Unit
-judged valid c = cond valid (give tt tt c) (refuse 8 0 c)
+judged valid c = cond valid (give tt tt c) (refuse no.badText 0 c)
 
 -- a span more in a table of spans, which is loan n, of which so many are used
 abbrev pub pushed : ℕ → ℕ → Span → List ℕ → Cursor → (Cursor → ℕ → Cursor) → Out (List ℕ) Span
 pushed n used s T c to =
-    cond (leb (length T / spanWidth) used) (refuse 10 n c) (give s (sets T (used * spanWidth) (s .begin ∷ s .size ∷ [])) (to c (used + 1)))
+    cond (leb (length T / spanWidth) used) (refuse no.noRoom n c) (give s (sets T (used * spanWidth) (s .begin ∷ s .size ∷ [])) (to c (used + 1)))
 
 -- a text's last byte, where it enters the strings (12; 8, 10/3)
 unfoldable pub textEnd : Span → Bool → List ℕ → Cursor → Out (List ℕ) Span
 textEnd s valid T c =
     cond (ltb (length T / spanWidth) (c .strings)) lost
-    (cond valid (pushed 3 (c .strings) s T c stringsTo) (refuse 8 0 c))
+    (cond valid (pushed loanStrings (c .strings) s T c stringsTo) (refuse no.badText 0 c))
 
 -- ---- objects
 
@@ -197,17 +199,17 @@ unfoldable pub entered : ℕ → List ℕ → Cursor → Out (List ℕ) Unit
 entered row O c =
     cond (leb (c .rows) row) lost
     (cond (ltb (length O) (c .objects)) lost
-    (cond (leb (length O) (c .objects)) (refuse 10 4 c)
+    (cond (leb (length O) (c .objects)) (refuse no.noRoom loanObjects c)
     (give tt (set O (c .objects) row) (objectsTo c (c .objects + 1)))))
 
 -- row becomes a reference to object i (12; 4; 12 of its row; 5)
 unfoldable pub referred : ℕ → ℕ → List ℕ → List ℕ → Cursor → Out (List ℕ) Unit
 referred row i O R c =
     cond (ltb (length O) (c .objects)) lost
-    (cond (leb (c .objects) i) (refuse 4 i c)
+    (cond (leb (c .objects) i) (refuse no.noEntry i c)
     (cond (not (rowUsed R c (getD O i 0))) lost
     (cond (ltb (c .rows) (cell R (getD O i 0) colEnd)) lost
-    (cond (eqb (cell R (getD O i 0) colEnd) 0) (refuse 5 i c)
+    (cond (eqb (cell R (getD O i 0) colEnd) 0) (refuse no.openObject i c)
     (inRow row (λ R. put (put (put R row colKind kindReference) row colNumber (getD O i 0)) row colEnd (c .rows)) R c)))))
 
 -- ---- traits
@@ -230,7 +232,7 @@ traitHolds c t = spanUsed c (classOf t) && leb (t .dynamic) 1 && leb (t .first +
 unfoldable pub oldTrait : ℕ → List ℕ → Cursor → Out Unit Trait
 oldTrait i U c =
     cond (ltb (length U / traitWidth) (c .traits)) lost
-    (cond (leb (c .traits) i) (refuse 4 i c)
+    (cond (leb (c .traits) i) (refuse no.noEntry i c)
     (cond (traitHolds c (traitAt U i)) (give (traitAt U i) tt c) lost))
 
 -- a new trait of n names whose class is whole; one with no names has first name 0
@@ -239,14 +241,14 @@ traitOf s n dynamic c = record { begin = s .begin; size = s .size; dynamic = dyn
 
 -- a field name's span, as it is read (12; 10/6)
 unfoldable pub named : Span → List ℕ → Cursor → Out (List ℕ) Span
-named s N c = cond (ltb (length N / spanWidth) (c .names)) lost (pushed 6 (c .names) s N c namesTo)
+named s N c = cond (ltb (length N / spanWidth) (c .names)) lost (pushed loanNames (c .names) s N c namesTo)
 
 -- a trait is entered after its last name (12; 10/5)
 unfoldable pub traitEnd : Trait → List ℕ → Cursor → Out (List ℕ) Unit
 traitEnd t U c =
     cond (ltb (length U / traitWidth) (c .traits)) lost
     (cond (not (traitHolds c t)) lost
-    (cond (leb (length U / traitWidth) (c .traits)) (refuse 10 5 c)
+    (cond (leb (length U / traitWidth) (c .traits)) (refuse no.noRoom loanTraits c)
     (give tt (sets U (c .traits * traitWidth) (t .begin ∷ t .size ∷ t .dynamic ∷ t .first ∷ t .count ∷ [])) (traitsTo c (c .traits + 1)))))
 
 -- the key of a sealed member: a name of its trait (12)

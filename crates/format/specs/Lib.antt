@@ -1,3 +1,5 @@
+pub mod Refusals
+pub mod Codes
 pub mod Decide
 pub mod Reading
 pub mod Step

@@ -1,7 +1,4 @@
 -- A state as plain numbers, of which any are a state: how they are read, written back, and stepped. What a mode has no use for is not read, and written as 0.
---   modes      1 marker (purpose: the key's mark)   2 word   3 eight bytes   4 flag   5 text   6 raw bytes
---   purposes   1 integer, double   2 object, date   3 XML   4 date   5 array   6 byte array   7 raw vector of fours   8 of eights   9 object vector
---              10 dictionary   11 string   12 key of an array   13 key of an object   14 class   15 externalizable class   16 name   17 class of a vector
 use mathlib.Core.Bool.{Bool, true, false, cond, not, _&&_}
 use mathlib.Core.List.{List, [], _∷_}
 use Prim.Native.Nat.{ℕ, zero, suc, _+_, _*_, _/_}
@@ -12,7 +9,12 @@ use Rattle.rows.specs.declared.Cursor.{Cursor}
 use Rattle.rows.specs.declared.Span.{Span}
 use Rattle.rows.specs.declared.Key.{Key}
 use Rattle.rows.specs.declared.Trait.{Trait}
-use Rattle.rows.specs.Memory.{Memory, fresh, faultOf, messageLimit, openLimit, rowWidth, spanWidth, traitWidth, span, noSpan, spanUsed}
+use Rattle.rows.specs.Memory.{Memory, fresh, faultOf, messageLimit, openLimit, openMost, rowWidth, spanWidth, traitWidth, span, noSpan, spanUsed}
+use Rattle.format.specs.Refusals as no
+use Rattle.format.specs.Codes.{statusWaiting, statusFinished, statusRefused, modeMarker, modeWord, modeNumber, modeFlag, modeText}
+use Rattle.format.specs.Codes.{modeRaw, purposeInteger, purposeDouble, purposeObject, purposeDateBits, purposeXml, purposeDate, purposeArray}
+use Rattle.format.specs.Codes.{purposeByteArray, purposeFours, purposeEights, purposeObjectVector, purposeDictionary, purposeString, purposeKey, purposeDynamicKey}
+use Rattle.format.specs.Codes.{purposeClass, purposeExternal, purposeName, purposeVectorClass}
 use Rattle.format.specs.declared.Lent.{Lent}
 use Rattle.format.specs.declared.Work.{Work}
 use Rattle.format.specs.declared.Head.{Head}
@@ -32,6 +34,10 @@ pub record Numbers : Type 0 where
 abbrev pub frameWidth : ℕ
 frameWidth = 6
 
+-- the numbers of the frames of as many values as can be open
+abbrev pub framesSize : ℕ
+framesSize = openMost * frameWidth
+
 -- ---- frames
 
 unfoldable pub frameAt : List ℕ → ℕ → Frame
@@ -44,70 +50,79 @@ unfoldable pub framesOf : List ℕ → ℕ → List Frame
 framesOf F zero = []
 framesOf F (suc n) = frameAt F n ∷ framesOf F n
 
-abbrev pub numbersOf : Frame → List ℕ
-numbersOf f = f .task ∷ f .row ∷ f .left ∷ f .done ∷ f .first ∷ f .dynamic ∷ []
+abbrev pub frameNumbers : Frame → List ℕ
+frameNumbers f = f .task ∷ f .row ∷ f .left ∷ f .done ∷ f .first ∷ f .dynamic ∷ []
 
 -- frames laid in their places; those above them are left as they are
 unfoldable pub laid : List ℕ → List Frame → List ℕ
 laid F [] = F
-laid F (f ∷ fs) = sets (laid F fs) (length fs * frameWidth) (numbersOf f)
+laid F (f ∷ fs) = sets (laid F fs) (length fs * frameWidth) (frameNumbers f)
 
 -- ---- modes
 
--- 3 to 10: the size word of a body
-unfoldable pub bodyAt : ℕ → (Body → Mode) → Mode
-bodyAt p f =
-    cond (eqb p 3) (f xml) (cond (eqb p 4) (f date) (cond (eqb p 5) (f array) (cond (eqb p 6) (f bytes) (cond (eqb p 7) (f (raw four))
-    (cond (eqb p 8) (f (raw eight)) (cond (eqb p 9) (f objects) (cond (eqb p 10) (f dictionary) astray)))))))
+-- whose body
+abbrev pub withBody : {A : Type 0} → A → ℕ → (Body → A) → A
+withBody a p f =
+    cond (eqb p purposeXml) (f xml) (cond (eqb p purposeDate) (f date) (cond (eqb p purposeArray) (f array) (cond (eqb p purposeByteArray) (f bytes) (cond (eqb p purposeFours) (f (raw four))
+    (cond (eqb p purposeEights) (f (raw eight)) (cond (eqb p purposeObjectVector) (f objects) (cond (eqb p purposeDictionary) (f dictionary) a)))))))
 
 unfoldable pub bodyPurpose : Body → ℕ
-bodyPurpose xml = 3
-bodyPurpose date = 4
-bodyPurpose array = 5
-bodyPurpose bytes = 6
-bodyPurpose (raw four) = 7
-bodyPurpose (raw eight) = 8
-bodyPurpose objects = 9
-bodyPurpose dictionary = 10
+bodyPurpose xml = purposeXml
+bodyPurpose date = purposeDate
+bodyPurpose array = purposeArray
+bodyPurpose bytes = purposeByteArray
+bodyPurpose (raw four) = purposeFours
+bodyPurpose (raw eight) = purposeEights
+bodyPurpose objects = purposeObjectVector
+bodyPurpose dictionary = purposeDictionary
 
--- 11 to 17: whose string it is
-unfoldable pub useAt : Work → (Use → Mode) → Mode
-useAt w f =
-    cond (eqb (w .purpose) 11) (f (forString (w .row)))
-    (cond (eqb (w .purpose) 12) (f (forKey (assoc (w .row) (w .count) (w .done))))
-    (cond (eqb (w .purpose) 13) (f (forKey (dynamics (w .row) (w .done))))
-    (cond (eqb (w .purpose) 14) (f (forClass (w .row) (w .count) (w .kind .dynamic)))
-    (cond (eqb (w .purpose) 15) (f forExternal)
-    (cond (eqb (w .purpose) 16) (f (forName (w .row) (w .kind) (w .count)))
-    (cond (eqb (w .purpose) 17) (f (forVector (w .row) (w .count))) astray))))))
+-- whose string
+abbrev pub withUse : {A : Type 0} → A → Work → (Use → A) → A
+withUse a w f =
+    cond (eqb (w .purpose) purposeString) (f (forString (w .row)))
+    (cond (eqb (w .purpose) purposeKey) (f (forKey (assoc (w .row) (w .count) (w .done))))
+    (cond (eqb (w .purpose) purposeDynamicKey) (f (forKey (dynamics (w .row) (w .done))))
+    (cond (eqb (w .purpose) purposeClass) (f (forClass (w .row) (w .count) (w .kind .dynamic)))
+    (cond (eqb (w .purpose) purposeExternal) (f forExternal)
+    (cond (eqb (w .purpose) purposeName) (f (forName (w .row) (w .kind) (w .count)))
+    (cond (eqb (w .purpose) purposeVectorClass) (f (forVector (w .row) (w .count))) a))))))
 
-abbrev pub keyAt : Work → Key
-keyAt w = record { mark = w .purpose; begin = w .span .begin; size = w .span .size }
+-- whose word, number, flag, text and raw bytes, by the purpose
+abbrev pub withWord : {A : Type 0} → A → Work → (Word → A) → A
+withWord a w f =
+    cond (eqb (w .purpose) purposeInteger) (f (integerWord (w .row)))
+    (cond (eqb (w .purpose) purposeObject) (f (objectWord (w .row)))
+    (cond (leb (w .purpose) purposeDictionary) (withBody a (w .purpose) (λ b. f (sizeWord (w .row) b))) (withUse a w (λ u. f (textWord u)))))
 
--- 1 marker, 2 word, 3 number, 4 flag, 5 text, 6 raw bytes
+abbrev pub withNumber : {A : Type 0} → A → Work → (Number → A) → A
+withNumber a w f = cond (eqb (w .purpose) purposeDouble) (f (doubleBits (w .row))) (cond (eqb (w .purpose) purposeDateBits) (f (dateBits (w .row))) a)
+
+abbrev pub withFlag : {A : Type 0} → A → Work → (Flag → A) → A
+withFlag a w f =
+    cond (eqb (w .purpose) purposeFours) (f (rawFlag (w .row) four (w .span)))
+    (cond (eqb (w .purpose) purposeEights) (f (rawFlag (w .row) eight (w .span)))
+    (cond (eqb (w .purpose) purposeObjectVector) (f (objectsFlag (w .row) (w .count)))
+    (cond (eqb (w .purpose) purposeDictionary) (f (dictionaryFlag (w .row) (w .count))) a)))
+
+abbrev pub withText : {A : Type 0} → A → Work → (Text → A) → A
+withText a w f = cond (eqb (w .purpose) purposeXml) (f (xmlText (w .row))) (withUse a w (λ u. f (tableText u)))
+
+abbrev pub withRaw : {A : Type 0} → A → ℕ → ℕ → (Raw → A) → A
+withRaw a purpose row f =
+    cond (eqb purpose purposeByteArray) (f (byteArray row)) (cond (eqb purpose purposeFours) (f (rawVector row four)) (cond (eqb purpose purposeEights) (f (rawVector row eight)) a))
+
+abbrev pub workKey : Work → Key
+workKey w = record { mark = w .purpose; begin = w .span .begin; size = w .span .size }
+
+-- the mode of a work
 unfoldable pub modeOf : Work → Mode
 modeOf w =
-    cond (eqb (w .mode) 1) (atMarker (keyAt w))
-    (cond (eqb (w .mode) 2)
-    (cond (eqb (w .purpose) 1) (atWord (integerWord (w .row)) (w .left) (w .part))
-    (cond (eqb (w .purpose) 2) (atWord (objectWord (w .row)) (w .left) (w .part))
-    (cond (leb (w .purpose) 10) (bodyAt (w .purpose) (λ b. atWord (sizeWord (w .row) b) (w .left) (w .part)))
-    (useAt w (λ u. atWord (textWord u) (w .left) (w .part))))))
-    (cond (eqb (w .mode) 3)
-    (cond (eqb (w .purpose) 1) (atNumber (doubleBits (w .row)) (w .left) (w .part))
-    (cond (eqb (w .purpose) 2) (atNumber (dateBits (w .row)) (w .left) (w .part)) astray))
-    (cond (eqb (w .mode) 4)
-    (cond (eqb (w .purpose) 7) (atFlag (rawFlag (w .row) four (w .span)))
-    (cond (eqb (w .purpose) 8) (atFlag (rawFlag (w .row) eight (w .span)))
-    (cond (eqb (w .purpose) 9) (atFlag (objectsFlag (w .row) (w .count)))
-    (cond (eqb (w .purpose) 10) (atFlag (dictionaryFlag (w .row) (w .count))) astray))))
-    (cond (eqb (w .mode) 5)
-    (cond (eqb (w .purpose) 3) (atText (xmlText (w .row)) (w .span) (w .left) (w .part))
-    (useAt w (λ u. atText (tableText u) (w .span) (w .left) (w .part))))
-    (cond (eqb (w .mode) 6)
-    (cond (eqb (w .purpose) 6) (atRaw (byteArray (w .row)) (w .span) (w .left))
-    (cond (eqb (w .purpose) 7) (atRaw (rawVector (w .row) four) (w .span) (w .left))
-    (cond (eqb (w .purpose) 8) (atRaw (rawVector (w .row) eight) (w .span) (w .left)) astray)))
+    cond (eqb (w .mode) modeMarker) (atMarker (workKey w))
+    (cond (eqb (w .mode) modeWord) (withWord astray w (λ x. atWord x (w .left) (w .part)))
+    (cond (eqb (w .mode) modeNumber) (withNumber astray w (λ x. atNumber x (w .left) (w .part)))
+    (cond (eqb (w .mode) modeFlag) (withFlag astray w atFlag)
+    (cond (eqb (w .mode) modeText) (withText astray w (λ x. atText x (w .span) (w .left) (w .part)))
+    (cond (eqb (w .mode) modeRaw) (withRaw astray (w .purpose) (w .row) (λ r. atRaw r (w .span) (w .left)))
     astray)))))
 
 -- the numbers of a mode; the others are 0
@@ -125,39 +140,39 @@ abbrev pub noWork : Work
 noWork = work 0 0 0 0 0 noSpan noTrait 0 0
 
 unfoldable pub useWork : ℕ → Use → ℕ → ℕ → Span → Work
-useWork mode (forString row) left part s = work mode 11 row left part s noTrait 0 0
-useWork mode (forKey (assoc row count done)) left part s = work mode 12 row left part s noTrait count done
-useWork mode (forKey (dynamics row done)) left part s = work mode 13 row left part s noTrait 0 done
-useWork mode (forClass row count y) left part s = work mode 14 row left part s (ofDynamic y) count 0
-useWork mode forExternal left part s = work mode 15 0 left part s noTrait 0 0
-useWork mode (forName row t count) left part s = work mode 16 row left part s t count 0
-useWork mode (forVector row count) left part s = work mode 17 row left part s noTrait count 0
+useWork mode (forString row) left part s = work mode purposeString row left part s noTrait 0 0
+useWork mode (forKey (assoc row count done)) left part s = work mode purposeKey row left part s noTrait count done
+useWork mode (forKey (dynamics row done)) left part s = work mode purposeDynamicKey row left part s noTrait 0 done
+useWork mode (forClass row count y) left part s = work mode purposeClass row left part s (ofDynamic y) count 0
+useWork mode forExternal left part s = work mode purposeExternal 0 left part s noTrait 0 0
+useWork mode (forName row t count) left part s = work mode purposeName row left part s t count 0
+useWork mode (forVector row count) left part s = work mode purposeVectorClass row left part s noTrait count 0
 
 unfoldable pub workOf : Mode → Work
-workOf (atMarker k) = work 1 (k .mark) 0 0 0 (span (k .begin) (k .size)) noTrait 0 0
-workOf (atWord (integerWord row) left part) = work 2 1 row left part noSpan noTrait 0 0
-workOf (atWord (objectWord row) left part) = work 2 2 row left part noSpan noTrait 0 0
-workOf (atWord (sizeWord row b) left part) = work 2 (bodyPurpose b) row left part noSpan noTrait 0 0
-workOf (atWord (textWord u) left part) = useWork 2 u left part noSpan
-workOf (atNumber (doubleBits row) left part) = work 3 1 row left part noSpan noTrait 0 0
-workOf (atNumber (dateBits row) left part) = work 3 2 row left part noSpan noTrait 0 0
-workOf (atFlag (rawFlag row w s)) = work 4 (bodyPurpose (raw w)) row 0 0 s noTrait 0 0
-workOf (atFlag (objectsFlag row count)) = work 4 9 row 0 0 noSpan noTrait count 0
-workOf (atFlag (dictionaryFlag row count)) = work 4 10 row 0 0 noSpan noTrait count 0
-workOf (atText (xmlText row) s left test) = work 5 3 row left test s noTrait 0 0
-workOf (atText (tableText u) s left test) = useWork 5 u left test s
-workOf (atRaw (byteArray row) s left) = work 6 6 row left 0 s noTrait 0 0
-workOf (atRaw (rawVector row w) s left) = work 6 (bodyPurpose (raw w)) row left 0 s noTrait 0 0
+workOf (atMarker k) = work modeMarker (k .mark) 0 0 0 (span (k .begin) (k .size)) noTrait 0 0
+workOf (atWord (integerWord row) left part) = work modeWord purposeInteger row left part noSpan noTrait 0 0
+workOf (atWord (objectWord row) left part) = work modeWord purposeObject row left part noSpan noTrait 0 0
+workOf (atWord (sizeWord row b) left part) = work modeWord (bodyPurpose b) row left part noSpan noTrait 0 0
+workOf (atWord (textWord u) left part) = useWork modeWord u left part noSpan
+workOf (atNumber (doubleBits row) left part) = work modeNumber purposeDouble row left part noSpan noTrait 0 0
+workOf (atNumber (dateBits row) left part) = work modeNumber purposeDateBits row left part noSpan noTrait 0 0
+workOf (atFlag (rawFlag row w s)) = work modeFlag (bodyPurpose (raw w)) row 0 0 s noTrait 0 0
+workOf (atFlag (objectsFlag row count)) = work modeFlag purposeObjectVector row 0 0 noSpan noTrait count 0
+workOf (atFlag (dictionaryFlag row count)) = work modeFlag purposeDictionary row 0 0 noSpan noTrait count 0
+workOf (atText (xmlText row) s left test) = work modeText purposeXml row left test s noTrait 0 0
+workOf (atText (tableText u) s left test) = useWork modeText u left test s
+workOf (atRaw (byteArray row) s left) = work modeRaw purposeByteArray row left 0 s noTrait 0 0
+workOf (atRaw (rawVector row w) s left) = work modeRaw (bodyPurpose (raw w)) row left 0 s noTrait 0 0
 workOf astray = noWork
 
 -- ---- a state and its numbers
 
--- status: 1 waiting, 2 finished, 3 refused, by a number from 1 to 12; anything else was never begun
+-- waiting; finished; refused, by a number that a reading gives; anything else was never begun
 unfoldable pub stateOf : Numbers → Memory → State
 stateOf n m =
-    cond (eqb (n .head .status) 1) (wait (modeOf (n .head .work)) (framesOf (n .frames) (n .head .depth)) (n .head .cursor) m)
-    (cond (eqb (n .head .status) 2) (over (finished (n .head .cursor) m))
-    (cond (eqb (n .head .status) 3 && leb 1 (n .head .number) && leb (n .head .number) 12)
+    cond (eqb (n .head .status) statusWaiting) (wait (modeOf (n .head .work)) (framesOf (n .frames) (n .head .depth)) (n .head .cursor) m)
+    (cond (eqb (n .head .status) statusFinished) (over (finished (n .head .cursor) m))
+    (cond (eqb (n .head .status) statusRefused && leb no.badLoan (n .head .number) && leb (n .head .number) no.lost)
     (over (refused (n .head .number) (n .head .told) (n .head .place) m))
     (none m)))
 
@@ -166,11 +181,11 @@ head status number told place lent c depth work =
     record { status = status; number = number; told = told; place = place; lent = lent; cursor = c; depth = depth; work = work }
 
 -- the numbers of a state, over those that it had: the loans' lengths and the frames above the open ones stay
-unfoldable pub numbered : Numbers → State → Numbers
-numbered n (wait x ts c m) = record { head = head 1 0 0 0 (n .head .lent) c (length ts) (workOf x); frames = laid (n .frames) ts }
-numbered n (over (finished c m)) = record { head = head 2 0 0 0 (n .head .lent) c 0 noWork; frames = n .frames }
-numbered n (over (refused number told place m)) = record { head = head 3 number told place (n .head .lent) fresh 0 noWork; frames = n .frames }
-numbered n (none m) = n
+unfoldable pub numbersOf : Numbers → State → Numbers
+numbersOf n (wait x ts c m) = record { head = head statusWaiting 0 0 0 (n .head .lent) c (length ts) (workOf x); frames = laid (n .frames) ts }
+numbersOf n (over (finished c m)) = record { head = head statusFinished 0 0 0 (n .head .lent) c 0 noWork; frames = n .frames }
+numbersOf n (over (refused number told place m)) = record { head = head statusRefused number told place (n .head .lent) fresh 0 noWork; frames = n .frames }
+numbersOf n (none m) = n
 
 abbrev pub memoryOf : State → Memory
 memoryOf (wait x ts c m) = m
@@ -255,7 +270,7 @@ pub data Held : Type 0 where
   held : Numbers → Memory → Held
 
 unfoldable pub afterStep : Numbers → State → Held
-afterStep n s = held (numbered n s) (memoryOf s)
+afterStep n s = held (numbersOf n s) (memoryOf s)
 
 -- one byte; what has ended keeps its numbers and its loans
 abbrev pub stepped : Numbers → Memory → ℕ → State → Held

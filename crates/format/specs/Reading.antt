@@ -18,6 +18,7 @@ use Rattle.wire.specs.U29.{partOf}
 use Rattle.wire.specs.Word.{sizeOf, shapeOf}
 use Rattle.wire.specs.Big.{digitOf}
 use Rattle.utf8.specs.States.{stepOf}
+use Rattle.format.specs.Refusals as no
 use Rattle.format.specs.Decide.{Out, stop, give, refuse, lost, Decision, looking, onRows, onStore, onStrings, onObjects, onTraits, onNames, widthOf}
 use Rattle.format.specs.Decide.{Body, xml, date, array, bytes, raw, objects, dictionary, Kind, leaf, integer, double, string, object, sized, kindOf}
 use Rattle.format.specs.Decide.{marker, closed, numbered, integerEnd, dateEnd, bodied, objectClass, vectorClass, fixed, weak, flagged, counted, grown}
@@ -69,8 +70,8 @@ taken c = cursor (suc (c .at)) (c .rows) (c .store) (c .strings) (c .objects) (c
 
 -- the one place where a byte is asked for: 2 where there is none, 11 where it is one too many
 unfoldable pub byte : Reader ℕ
-byte m c [] = bad 2 0 (c .at) m
-byte m c (b ∷ bs) = cond (leb messageLimit (c .at)) (bad 11 0 (c .at) m) (ok b m (taken c) bs)
+byte m c [] = bad no.unexpectedEnd 0 (c .at) m
+byte m c (b ∷ bs) = cond (leb messageLimit (c .at)) (bad no.tooLong 0 (c .at) m) (ok b m (taken c) bs)
 
 -- ---- numbers, words and texts
 
@@ -186,7 +187,7 @@ objectOf value row (Object i) = by (λ m. onRows (referred row i (m .objects)) m
 objectOf value row (Known i) = do
   t ← by (onObjects (entered row)) >> by (looking (λ m. oldTrait i (m .traits)))
   by (onRows (objectClass row t)) >> members value row t
-objectOf value row External = by (onObjects (entered row)) >> text plain >> by (λ m c. refuse 6 0 c)
+objectOf value row External = by (onObjects (entered row)) >> text plain >> by (λ m c. refuse no.externalizable 0 c)
 objectOf value row (Inline n dynamic) = do
   s ← by (onObjects (entered row)) >> text plain
   λ m c. inlined value row (traitOf s n dynamic c) m c
@@ -288,7 +289,7 @@ ended (bad n told place m) = refusal n told place m
 -- refusal 1 leaves the loans as found
 abbrev pub unlessFault : ℕ → Memory → Ended → Ended
 unlessFault zero m e = e
-unlessFault (suc loan) m e = refused 1 (suc loan) 0 m
+unlessFault (suc loan) m e = refused no.badLoan (suc loan) 0 m
 
 unfoldable pub reading : Memory → List ℕ → Ended
 reading m bs = unlessFault (faultOf m) m (ended (value openLimit noKey (zeroed m) fresh bs))

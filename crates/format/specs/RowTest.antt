@@ -9,6 +9,7 @@ use Rattle.rows.specs.Memory.{colCount2, colEnd}
 use Rattle.rows.specs.Kinds.{kindUndefined, kindBoolean, kindInteger, kindDouble, kindString, kindXmlDocument, kindDate, kindArray, kindObject, kindXml}
 use Rattle.rows.specs.Kinds.{kindByteArray, kindIntVector, kindUintVector, kindDoubleVector, kindObjectVector, kindDictionary, kindReference}
 use Rattle.utf8.specs.Grammar.{validText}
+use Rattle.format.specs.Refusals as no
 use Rattle.format.specs.Standard.{isStar}
 use Rattle.format.specs.Unfold.{rowsIn, col, bodyOf, keyText}
 
@@ -159,8 +160,8 @@ pub data Tested : Type 0 where
 -- n rows from row i
 unfoldable pub testFrom : List ℕ → List ℕ → ℕ → ℕ → Tested
 testFrom R B i zero = fine
-testFrom R B i (suc n) = cond (wellFormed R B i) (cond (writable R B i) (testFrom R B (suc i) n) (faulty 14 i)) (faulty 13 i)
+testFrom R B i (suc n) = cond (wellFormed R B i) (cond (writable R B i) (testFrom R B (suc i) n) (faulty no.unwritable i)) (faulty no.malformed i)
 
 -- no rows: 13, row 0
 unfoldable pub tested : List ℕ → List ℕ → Tested
-tested R B = cond (eqb (rowsIn R) 0) (faulty 13 0) (testFrom R B 0 (rowsIn R))
+tested R B = cond (eqb (rowsIn R) 0) (faulty no.malformed 0) (testFrom R B 0 (rowsIn R))

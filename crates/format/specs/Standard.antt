@@ -20,6 +20,7 @@ use Rattle.wire.specs.Sign.{integerOf, bitsAt}
 use Rattle.wire.specs.Big.{numberOf, bytesOf}
 use Rattle.wire.specs.Date.{dateOf}
 use Rattle.utf8.specs.Grammar.{validText}
+use Rattle.format.specs.Refusals as no
 use Rattle.format.specs.Decide as k
 use Rattle.format.specs.Decide.{Kind, Body, kindOf, widthOf}
 use Rattle.format.specs.Reading.{ResultOf, ReaderOf, ok, bad, bind, _>>=_, ret}
@@ -91,7 +92,7 @@ fail n told s p bs = bad n told p s
 
 -- entry i of a table, or 4
 abbrev pub lookup : {A : Type 0} → (Tables → List A) → A → ℕ → Std A
-lookup f d i s p bs = cond (ltb i (length (f s))) (ok (getD (f s) i d) s p bs) (bad 4 i p s)
+lookup f d i s p bs = cond (ltb i (length (f s))) (ok (getD (f s) i d) s p bs) (bad no.noEntry i p s)
 
 abbrev pub change : {A : Type 0} → A → (Tables → Tables) → Std A
 change a f s p bs = ok a (f s) p bs
@@ -99,7 +100,7 @@ change a f s p bs = ok a (f s) p bs
 -- ---- bytes, numbers and texts
 
 unfoldable pub byte : Std ℕ
-byte s p [] = bad 2 0 p s
+byte s p [] = bad no.unexpectedEnd 0 p s
 byte s p (b ∷ bs) = ok b s (suc p) bs
 
 unfoldable pub bytes : ℕ → Std (List ℕ)
@@ -122,7 +123,7 @@ word (suc left) n = do
 unfoldable pub chars : ℕ → Std (List ℕ)
 chars n = do
   t ← bytes n
-  cond (validText t) (ret t) (fail 8 0)
+  cond (validText t) (ret t) (fail no.badText 0)
 
 -- an empty string never enters the table
 unfoldable pub entered : List ℕ → Std (List ℕ)
@@ -151,7 +152,7 @@ unfoldable pub shut : ℕ → Tree → Std Tree
 shut i t = change t (λ s. withObjects (set (s .objects) i (some t)) s)
 
 unfoldable pub finishedObject : ℕ → Option Tree → Std Tree
-finishedObject i none = fail 5 i
+finishedObject i none = fail no.openObject i
 finishedObject i (some t) = ret t
 
 unfoldable pub objectAt : ℕ → Std Tree
@@ -215,7 +216,7 @@ pairsFrom value more (b ∷ x) = do
 
 -- pairs up to an empty key; f is no less than the bytes left, so that it never runs out before them
 unfoldable pub pairs : Std Tree → ℕ → Std Pairs
-pairs value zero = fail 2 0
+pairs value zero = fail no.unexpectedEnd 0
 pairs value (suc f) = do
   x ← text
   pairsFrom value (pairs value f) x
@@ -250,14 +251,14 @@ objectOf value f (Known j) = do
 objectOf value f External = do
   _ ← opened
   _ ← text
-  fail 6 0
+  fail no.externalizable 0
 objectOf value f (Inline n dynamic) = do
   i ← opened
   t ← newTraits n dynamic
   members value f i t
 
 abbrev pub dated : ℕ → Date → Std Tree
-dated bits Refused = fail 7 bits
+dated bits Refused = fail no.badDate bits
 dated bits (Millis n) = ret (plain (date n))
 
 -- what marker b makes of a text, of raw bytes
@@ -326,10 +327,10 @@ marked value f b (k.sized body) = do
 
 -- a value; neither f nor d is less than the bytes left, so that neither runs out before them
 unfoldable pub value : ℕ → ℕ → Std Tree
-value f zero = fail 2 0
+value f zero = fail no.unexpectedEnd 0
 value f (suc d) = do
   b ← byte
-  cond (ltb 0x11 b) (fail 3 b) (marked (value f d) f b (kindOf b))
+  cond (ltb 0x11 b) (fail no.badMarker b) (marked (value f d) f b (kindOf b))
 
 -- one value at the beginning of a message, with fresh tables
 unfoldable pub standard : List ℕ → ResultOf Tables ℕ Tree

@@ -9,6 +9,8 @@ use Rattle.rows.specs.declared.Cursor.{Cursor}
 use Rattle.rows.specs.declared.Span.{Span}
 use Rattle.rows.specs.declared.Key.{Key}
 use Rattle.rows.specs.declared.Trait.{Trait}
+use Rattle.format.specs.Refusals as no
+use Rattle.format.specs.Codes.{taskPairs, taskDynamics, taskDense, taskVector, taskMembers, taskKeys, taskValues}
 use Rattle.format.specs.declared.Frame.{Frame}
 use Rattle.rows.specs.Memory.{Memory, fresh, zeroed, faultOf, messageLimit, openLimit, colCount, colCount2, noSpan, noKey, keyOf}
 use Rattle.wire.specs.declared.Part.{Part}
@@ -58,22 +60,22 @@ frame task row left done first y = record { task = task; row = row; left = left;
 
 unfoldable pub taskOf : Frame → Task
 taskOf f =
-    cond (eqb (f .task) 1) (pairsOf (assoc (f .row) (f .left) (f .done)))
-    (cond (eqb (f .task) 2) (pairsOf (dynamics (f .row) (f .done)))
-    (cond (eqb (f .task) 3) (itemsOf dense (f .row) (f .left) (f .done))
-    (cond (eqb (f .task) 4) (itemsOf vector (f .row) (f .left) (f .done))
-    (cond (eqb (f .task) 5) (membersOf (f .row) (f .left) (f .done) (f .first) (f .dynamic))
-    (cond (eqb (f .task) 6) (keysOf (f .row) (f .left) (f .done))
-    (cond (eqb (f .task) 7) (valuesOf (f .row) (f .left) (f .done)) strange))))))
+    cond (eqb (f .task) taskPairs) (pairsOf (assoc (f .row) (f .left) (f .done)))
+    (cond (eqb (f .task) taskDynamics) (pairsOf (dynamics (f .row) (f .done)))
+    (cond (eqb (f .task) taskDense) (itemsOf dense (f .row) (f .left) (f .done))
+    (cond (eqb (f .task) taskVector) (itemsOf vector (f .row) (f .left) (f .done))
+    (cond (eqb (f .task) taskMembers) (membersOf (f .row) (f .left) (f .done) (f .first) (f .dynamic))
+    (cond (eqb (f .task) taskKeys) (keysOf (f .row) (f .left) (f .done))
+    (cond (eqb (f .task) taskValues) (valuesOf (f .row) (f .left) (f .done)) strange))))))
 
 unfoldable pub frameOf : Task → Frame
-frameOf (pairsOf (assoc row left done)) = frame 1 row left done 0 0
-frameOf (pairsOf (dynamics row done)) = frame 2 row 0 done 0 0
-frameOf (itemsOf dense row left done) = frame 3 row left done 0 0
-frameOf (itemsOf vector row left done) = frame 4 row left done 0 0
-frameOf (membersOf row left done first y) = frame 5 row left done first y
-frameOf (keysOf row left done) = frame 6 row left done 0 0
-frameOf (valuesOf row left done) = frame 7 row left done 0 0
+frameOf (pairsOf (assoc row left done)) = frame taskPairs row left done 0 0
+frameOf (pairsOf (dynamics row done)) = frame taskDynamics row 0 done 0 0
+frameOf (itemsOf dense row left done) = frame taskDense row left done 0 0
+frameOf (itemsOf vector row left done) = frame taskVector row left done 0 0
+frameOf (membersOf row left done first y) = frame taskMembers row left done first y
+frameOf (keysOf row left done) = frame taskKeys row left done 0 0
+frameOf (valuesOf row left done) = frame taskValues row left done 0 0
 frameOf strange = frame 0 0 0 0 0 0
 
 -- whose string it is: a string's row; the next key of pairs; the class of an object with so many names, dynamic or not; that of an externalizable one;
@@ -136,7 +138,7 @@ on (give a m c) _ f = f a c m
 
 -- 12
 abbrev pub broken : Memory → State
-broken m = over (refusal 12 0 0 m)
+broken m = over (refusal no.lost 0 0 m)
 
 -- a string is next
 abbrev pub atString : Use → Mode
@@ -205,7 +207,7 @@ unfoldable pub had : List Frame → Use → Span → Cursor → Memory → State
 had ts (forString row) s c m = on (onRows (bodied row s) m c) m (λ x. ends ts (onRows (closed row)))
 had ts (forKey p) s c m = keyed ts p s (s .size) c m
 had ts (forClass row n y) s c m = on (onRows (objectClass row (traitOf s n y c)) m c) m (λ x. naming ts row (traitOf s n y c) n)
-had ts forExternal s c m = over (refusal 6 0 (c .at) m)
+had ts forExternal s c m = over (refusal no.externalizable 0 (c .at) m)
 had ts (forName row t n) s c m = on (onNames (named s) m c) m (λ x. naming ts row t n)
 had ts (forVector row n) s c m =
     on (looking (λ m. starred s (m .store)) m c) m (λ star c m. on (onRows (vectorClass row star s) m c) m (λ x. onward ts (itemsOf vector row n 0)))
@@ -327,7 +329,7 @@ act astray b ts c m = broken m
 unfoldable pub step : ℕ → State → State
 step b (over e) = over e
 step b (none m) = broken m
-step b (wait x ts c m) = cond (leb messageLimit (c .at)) (over (refusal 11 0 (c .at) m)) (act x b ts (taken c) m)
+step b (wait x ts c m) = cond (leb messageLimit (c .at)) (over (refusal no.tooLong 0 (c .at) m)) (act x b ts (taken c) m)
 
 unfoldable pub run : State → List ℕ → State
 run s [] = s
@@ -336,13 +338,13 @@ run s (b ∷ bs) = run (step b s) bs
 -- the end is declared
 unfoldable pub end : State → Ended
 end (over e) = e
-end (none m) = refusal 12 0 0 m
-end (wait x ts c m) = refusal 2 0 (c .at) m
+end (none m) = refusal no.lost 0 0 m
+end (wait x ts c m) = refusal no.unexpectedEnd 0 (c .at) m
 
 -- the lowest faulty loan is given, 0 where there is none
 abbrev pub beginAt : ℕ → Memory → State
 beginAt zero m = wait (atMarker noKey) [] fresh (zeroed m)
-beginAt (suc loan) m = over (refused 1 (suc loan) 0 m)
+beginAt (suc loan) m = over (refused no.badLoan (suc loan) 0 m)
 
 unfoldable pub begin : Memory → State
 begin m = beginAt (faultOf m) m

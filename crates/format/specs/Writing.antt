@@ -5,6 +5,8 @@ use Prim.Native.Nat.{ℕ, zero, suc}
 use lib.Dec.{leb}
 use lib.ListN.{length, drop}
 use Rattle.rows.specs.Memory.{openLimit, rowsFault}
+use Rattle.format.specs.Refusals as no
+use Rattle.rows.specs.Memory.{loanOutput}
 use Rattle.format.specs.Standard.{Tree, plain, array, object, objectVector, dictionary, Trees, nil, cons, Pairs, noPairs, pair, Entries, noEntries}
 use Rattle.format.specs.Standard.{entry, textBytes, encodePlain, arrayHead, objectHead, vectorHead, dictionaryHead}
 use Rattle.format.specs.Unfold.{unfolded}
@@ -27,10 +29,10 @@ unfoldable pub these : List ℕ → Stream
 these [] = done
 these (b ∷ bs) = byte b (these bs)
 
-unfoldable pub bytesOf : Stream → List ℕ
-bytesOf done = []
-bytesOf deep = []
-bytesOf (byte b x) = b ∷ bytesOf x
+unfoldable pub streamBytes : Stream → List ℕ
+streamBytes done = []
+streamBytes deep = []
+streamBytes (byte b x) = b ∷ streamBytes x
 
 unfoldable pub isDeep : Stream → Bool
 isDeep done = false
@@ -81,9 +83,9 @@ pub data Wrote : Type 0 where
 -- 10 at the first byte past the output, 9 where the bytes stop before it; else they stand at its beginning, and the rest of it as it was
 unfoldable pub settle : Stream → List ℕ → Wrote
 settle e out =
-    cond (leb (length (bytesOf e)) (length out))
-    (cond (isDeep e) (unwritten 9 0 (length (bytesOf e)) out) (written (length (bytesOf e)) (bytesOf e ++ drop (length (bytesOf e)) out)))
-    (unwritten 10 7 (length out) out)
+    cond (leb (length (streamBytes e)) (length out))
+    (cond (isDeep e) (unwritten no.tooDeep 0 (length (streamBytes e)) out) (written (length (streamBytes e)) (streamBytes e ++ drop (length (streamBytes e)) out)))
+    (unwritten no.noRoom loanOutput (length out) out)
 
 abbrev pub afterTest : Tested → Stream → List ℕ → Wrote
 afterTest fine e out = settle e out
@@ -92,7 +94,7 @@ afterTest (faulty n row) e out = unwritten n row 0 out
 -- refusal 1 for the rows, then for the store
 abbrev pub afterFault : ℕ → List ℕ → Wrote → Wrote
 afterFault zero out w = w
-afterFault (suc loan) out w = unwritten 1 (suc loan) 0 out
+afterFault (suc loan) out w = unwritten no.badLoan (suc loan) 0 out
 
 unfoldable pub writing : List ℕ → List ℕ → List ℕ → Wrote
 writing R B out = afterFault (rowsFault R B) out (afterTest (tested R B) (emit openLimit (unfolded R B 0)) out)

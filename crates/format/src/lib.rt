@@ -1,11 +1,28 @@
 // The answers of the public calls, and the types of a state that is lent to the feed: plain numbers, any of which is a state. What they mean is
 // specs/Answers.antt and specs/Numbers.antt.
 
+pub mod modes;
+pub mod purposes;
+pub mod refusals;
+pub mod statuses;
+pub mod tasks;
+
 use rows::Cursor;
+use rows::OPEN_LIMIT;
 use rows::Span;
 use rows::Trait;
 ghost use mathlib.Core.Path.{_≡_};
 ghost use Rattle.format.specs.Numbers.{noWork};
+
+// ---- frames
+
+// The numbers of a frame, and of the frames of as many values as can be open.
+pub const FRAME_WIDTH: usize = 6;
+
+pub const FRAMES_SIZE: usize = OPEN_LIMIT * FRAME_WIDTH;
+
+// The frames of the open values, outermost first.
+pub type Frames = [usize; FRAMES_SIZE];
 
 // What a reading answers: it waits; it is finished, with so many rows and store bytes used; or it is refused. `taken` counts bytes taken.
 pub enum Answer {

@@ -1,7 +1,11 @@
 // The tests of rows before they are written: 13, a row is malformed, and 14, it can't be written. A small function is the definition of its name in
 // crates/format/specs/RowTest.antt. `judge` goes over the rows once: each row's walk over its children keeps the least row that has not the key it is given.
 
+use format::refusals;
+use rows::ROW_WIDTH;
 use rows::Span;
+use rows::columns;
+use rows::kinds;
 ghost use mathlib.Core.Path.{_≡_};
 ghost use mathlib.Core.Bool.{true, _&&_};
 ghost use Prim.Native.Nat.{_*_, _+_, _<_, _≤_};
@@ -14,61 +18,7 @@ ghost use Rattle.format.specs.RowTest as t;
 ghost use Rattle.judge.specs.Answers.{judgedOf, givenOf};
 ghost use Rattle.judge.specs.Pass as pass;
 
-// ---- columns, kinds and limits
-
-const ROW_WIDTH: usize = 12;
-
-const COL_KIND: usize = 0;
-
-const COL_KEY_MARK: usize = 1;
-
-const COL_KEY_BEGIN: usize = 2;
-
-const COL_KEY_SIZE: usize = 3;
-
-const COL_BODY_BEGIN: usize = 4;
-
-const COL_BODY_SIZE: usize = 5;
-
-const COL_CLASS_MARK: usize = 6;
-
-const COL_FLAG: usize = 7;
-
-const COL_NUMBER: usize = 8;
-
-const COL_COUNT: usize = 9;
-
-const COL_COUNT2: usize = 10;
-
-const COL_END: usize = 11;
-
-const KIND_UNDEFINED: usize = 1;
-
-const KIND_BOOLEAN: usize = 3;
-
-const KIND_INTEGER: usize = 4;
-
-const KIND_DOUBLE: usize = 5;
-
-const KIND_XML_DOCUMENT: usize = 7;
-
-const KIND_DATE: usize = 8;
-
-const KIND_ARRAY: usize = 9;
-
-const KIND_OBJECT: usize = 10;
-
-const KIND_BYTE_ARRAY: usize = 12;
-
-const KIND_INT_VECTOR: usize = 13;
-
-const KIND_DOUBLE_VECTOR: usize = 15;
-
-const KIND_OBJECT_VECTOR: usize = 16;
-
-const KIND_DICTIONARY: usize = 17;
-
-const KIND_REFERENCE: usize = 18;
+// ---- what a column may hold
 
 // A mark, a flag or a boolean is this or 0.
 const SET: usize = 1;
@@ -94,10 +44,6 @@ const DATE_LAST: usize = 0x20_0000_0000_0000;
 const STAR: u8 = b'*';
 
 const STAR_SIZE: usize = 1;
-
-const MALFORMED: usize = 13;
-
-const UNWRITABLE: usize = 14;
 
 // ---- answers
 
@@ -141,7 +87,7 @@ fn within(kind: usize, first: usize, last: usize) -> bool
 fn is_raw(kind: usize) -> bool
     ensures { λ r. ⌜ r ≡ t.isRaw kind ⌝ }
 {
-    within(kind, KIND_INT_VECTOR, KIND_DOUBLE_VECTOR)
+    within(kind, kinds::INT_VECTOR, kinds::DOUBLE_VECTOR)
 }
 
 fn has_body(kind: usize) -> bool
@@ -150,7 +96,7 @@ fn has_body(kind: usize) -> bool
     if text::has_text(kind) {
         return true;
     }
-    if kind == KIND_BYTE_ARRAY {
+    if kind == kinds::BYTE_ARRAY {
         return true;
     }
     is_raw(kind)
@@ -159,37 +105,37 @@ fn has_body(kind: usize) -> bool
 fn has_class(kind: usize) -> bool
     ensures { λ r. ⌜ r ≡ t.hasClass kind ⌝ }
 {
-    if kind == KIND_OBJECT {
+    if kind == kinds::OBJECT {
         return true;
     }
-    kind == KIND_OBJECT_VECTOR
+    kind == kinds::OBJECT_VECTOR
 }
 
 fn has_flag(kind: usize) -> bool
     ensures { λ r. ⌜ r ≡ t.hasFlag kind ⌝ }
 {
-    within(kind, KIND_INT_VECTOR, KIND_DICTIONARY)
+    within(kind, kinds::INT_VECTOR, kinds::DICTIONARY)
 }
 
 fn has_number(kind: usize) -> bool
     ensures { λ r. ⌜ r ≡ t.hasNumber kind ⌝ }
 {
-    if within(kind, KIND_BOOLEAN, KIND_DOUBLE) {
+    if within(kind, kinds::BOOLEAN, kinds::DOUBLE) {
         return true;
     }
-    if kind == KIND_DATE {
+    if kind == kinds::DATE {
         return true;
     }
-    kind == KIND_REFERENCE
+    kind == kinds::REFERENCE
 }
 
 fn has_count2(kind: usize) -> bool
     ensures { λ r. ⌜ r ≡ t.hasCount2 kind ⌝ }
 {
-    if kind == KIND_ARRAY {
+    if kind == kinds::ARRAY {
         return true;
     }
-    kind == KIND_OBJECT
+    kind == kinds::OBJECT
 }
 
 fn has_count(kind: usize) -> bool
@@ -204,7 +150,7 @@ fn has_count(kind: usize) -> bool
 fn is_object(kind: usize) -> bool
     ensures { λ r. ⌜ r ≡ t.isObject kind ⌝ }
 {
-    within(kind, KIND_XML_DOCUMENT, KIND_DICTIONARY)
+    within(kind, kinds::XML_DOCUMENT, kinds::DICTIONARY)
 }
 
 // ---- 13: one row by itself
@@ -246,9 +192,9 @@ fn meant(has: bool, v: usize) -> bool
 fn body_fits(rows: &[usize], store: &[u8], i: usize, kind: usize) -> bool
     ensures { λ r. ⌜ r ≡ pass.bodyFits (now (rows .entry)) (now (store .entry)) i kind ⌝ }
 {
-    let mark = cell(rows, i, COL_CLASS_MARK);
-    let begin = cell(rows, i, COL_BODY_BEGIN);
-    let size = cell(rows, i, COL_BODY_SIZE);
+    let mark = cell(rows, i, columns::CLASS_MARK);
+    let begin = cell(rows, i, columns::BODY_BEGIN);
+    let size = cell(rows, i, columns::BODY_SIZE);
     if has_class(kind) {
         return mark_fits(store, mark, begin, size);
     }
@@ -267,20 +213,20 @@ fn columns_fit(rows: &[usize], store: &[u8], i: usize, kind: usize) -> bool
     if !body_fits(rows, store, i, kind) {
         return false;
     }
-    let flag = cell(rows, i, COL_FLAG);
+    let flag = cell(rows, i, columns::FLAG);
     if !meant(has_flag(kind), flag) {
         return false;
     }
     if SET < flag {
         return false;
     }
-    if !meant(has_number(kind), cell(rows, i, COL_NUMBER)) {
+    if !meant(has_number(kind), cell(rows, i, columns::NUMBER)) {
         return false;
     }
-    if !meant(has_count(kind), cell(rows, i, COL_COUNT)) {
+    if !meant(has_count(kind), cell(rows, i, columns::COUNT)) {
         return false;
     }
-    meant(has_count2(kind), cell(rows, i, COL_COUNT2))
+    meant(has_count2(kind), cell(rows, i, columns::COUNT2))
 }
 
 // A column as a signed number of 32 bits.
@@ -321,31 +267,31 @@ fn target_fits(rows: &[usize], i: usize, target: usize) -> bool
     if i <= target {
         return false;
     }
-    if i < cell(rows, target, COL_END) {
+    if i < cell(rows, target, columns::END) {
         return false;
     }
-    is_object(cell(rows, target, COL_KIND))
+    is_object(cell(rows, target, columns::KIND))
 }
 
 fn value_fits(rows: &[usize], i: usize, kind: usize) -> bool
     ensures { λ r. ⌜ r ≡ t.valueFits (now (rows .entry)) i kind ⌝ }
 {
-    let number = cell(rows, i, COL_NUMBER);
-    let size = cell(rows, i, COL_BODY_SIZE);
-    let count = cell(rows, i, COL_COUNT);
-    if kind == KIND_BOOLEAN {
+    let number = cell(rows, i, columns::NUMBER);
+    let size = cell(rows, i, columns::BODY_SIZE);
+    let count = cell(rows, i, columns::COUNT);
+    if kind == kinds::BOOLEAN {
         return number <= SET;
     }
-    if kind == KIND_INTEGER {
+    if kind == kinds::INTEGER {
         return int32_fits(number);
     }
-    if kind == KIND_DOUBLE_VECTOR {
+    if kind == kinds::DOUBLE_VECTOR {
         return is_times(size, DOUBLE_BYTES, count);
     }
     if is_raw(kind) {
         return is_times(size, INT_BYTES, count);
     }
-    if kind == KIND_REFERENCE {
+    if kind == kinds::REFERENCE {
         return target_fits(rows, i, number);
     }
     true
@@ -355,22 +301,22 @@ fn value_fits(rows: &[usize], i: usize, kind: usize) -> bool
 fn row_fits(rows: &[usize], store: &[u8], i: usize) -> bool
     ensures { λ r. ⌜ r ≡ pass.rowFits (now (rows .entry)) (now (store .entry)) i ⌝ }
 {
-    if cell(rows, 0, COL_END) <= i {
+    if cell(rows, 0, columns::END) <= i {
         return false;
     }
-    let kind = cell(rows, i, COL_KIND);
-    if kind < KIND_UNDEFINED {
+    let kind = cell(rows, i, columns::KIND);
+    if kind < kinds::UNDEFINED {
         return false;
     }
-    if KIND_REFERENCE < kind {
+    if kinds::REFERENCE < kind {
         return false;
     }
-    let mark = cell(rows, i, COL_KEY_MARK);
+    let mark = cell(rows, i, columns::KEY_MARK);
     if !mark_fits(
         store,
         mark,
-        cell(rows, i, COL_KEY_BEGIN),
-        cell(rows, i, COL_KEY_SIZE),
+        cell(rows, i, columns::KEY_BEGIN),
+        cell(rows, i, columns::KEY_SIZE),
     ) {
         return false;
     }
@@ -380,7 +326,7 @@ fn row_fits(rows: &[usize], store: &[u8], i: usize) -> bool
     if !value_fits(rows, i, kind) {
         return false;
     }
-    cell(rows, i, COL_END) <= rows.len() / ROW_WIDTH
+    cell(rows, i, columns::END) <= rows.len() / ROW_WIDTH
 }
 
 // ---- a row and its children
@@ -402,15 +348,15 @@ fn children(rows: &[usize], i: usize) -> usize
     ensures { λ r. ⌜ r ≡ pass.capped (u.rowsIn (now (rows .entry))) (t.children (now (rows .entry)) i) ⌝ }
 {
     let most = rows.len() / ROW_WIDTH;
-    let kind = cell(rows, i, COL_KIND);
-    let count = cell(rows, i, COL_COUNT);
+    let kind = cell(rows, i, columns::KIND);
+    let count = cell(rows, i, columns::COUNT);
     if has_count2(kind) {
-        return capped_sum(count, cell(rows, i, COL_COUNT2), most);
+        return capped_sum(count, cell(rows, i, columns::COUNT2), most);
     }
-    if kind == KIND_OBJECT_VECTOR {
+    if kind == kinds::OBJECT_VECTOR {
         return capped_sum(count, 0, most);
     }
-    if kind == KIND_DICTIONARY {
+    if kind == kinds::DICTIONARY {
         return capped_sum(count, count, most);
     }
     0
@@ -420,13 +366,13 @@ fn children(rows: &[usize], i: usize) -> usize
 fn gives(kind: usize, count: usize, j: usize) -> Gift
     ensures { λ r. ⌜ givenOf r ≡ pass.givesBy kind count j ⌝ }
 {
-    if kind == KIND_ARRAY {
+    if kind == kinds::ARRAY {
         if j < count {
             return Gift::Filled;
         }
         return Gift::Keyless;
     }
-    if kind == KIND_OBJECT {
+    if kind == kinds::OBJECT {
         if j < count {
             return Gift::Keyed;
         }
@@ -459,7 +405,7 @@ fn is_filled(g: Gift) -> bool
 fn is_wrong(rows: &[usize], k: usize, g: Gift) -> bool
     ensures { λ r. ⌜ r ≡ pass.isWrong (now (rows .entry)) k (givenOf g) ⌝ }
 {
-    cell(rows, k, COL_KEY_MARK) != mark_of(g)
+    cell(rows, k, columns::KEY_MARK) != mark_of(g)
 }
 
 // Row `k` has an empty key, and is given one that is not.
@@ -467,7 +413,7 @@ fn is_empty(rows: &[usize], k: usize, g: Gift) -> bool
     ensures { λ r. ⌜ r ≡ pass.isEmpty (now (rows .entry)) k (givenOf g) ⌝ }
 {
     if is_filled(g) {
-        return cell(rows, k, COL_KEY_SIZE) == 0;
+        return cell(rows, k, columns::KEY_SIZE) == 0;
     }
     false
 }
@@ -490,16 +436,16 @@ fn walk(rows: &[usize], i: usize, wrong: usize, empty: usize) -> Walked
     requires { ⌜ (i < u.rowsIn (now rows)) × (u.col (now rows) i colEnd ≤ u.rowsIn (now rows)) ⌝ }
     ensures { λ r. ⌜ r ≡ pass.walkOf (now (rows .entry)) i wrong empty ⌝ }
 {
-    let kind = cell(rows, i, COL_KIND);
-    let count = cell(rows, i, COL_COUNT);
-    let stop = cell(rows, i, COL_END);
+    let kind = cell(rows, i, columns::KIND);
+    let count = cell(rows, i, columns::COUNT);
+    let stop = cell(rows, i, columns::END);
     let n = children(rows, i);
     let mut w = wrong;
     let mut e = empty;
     let mut k = i + 1;
     let mut j: usize = 0;
     while j < n {
-        let next = cell(rows, k, COL_END);
+        let next = cell(rows, k, columns::END);
         if next <= k {
             return Walked::Broken;
         }
@@ -545,11 +491,11 @@ fn is_star(s: &[u8]) -> bool
 fn number_writable(rows: &[usize], i: usize, kind: usize) -> bool
     ensures { λ r. ⌜ r ≡ t.numberWritable (now (rows .entry)) i kind ⌝ }
 {
-    let number = cell(rows, i, COL_NUMBER);
-    if kind == KIND_INTEGER {
+    let number = cell(rows, i, columns::NUMBER);
+    if kind == kinds::INTEGER {
         return int29_fits(number);
     }
-    if kind == KIND_DATE {
+    if kind == kinds::DATE {
         return number <= DATE_LAST;
     }
     true
@@ -560,21 +506,21 @@ fn body_writable(rows: &[usize], store: &[u8], i: usize, kind: usize, known: Spa
     requires { ⌜ validText (u.part (now store) (known .begin) (known .size)) ≡ true ⌝ }
     ensures { λ r. ⌜ r ≡ t.bodyWritable (now (rows .entry)) (now (store .entry)) i kind ⌝ }
 {
-    let begin = cell(rows, i, COL_BODY_BEGIN);
-    let size = cell(rows, i, COL_BODY_SIZE);
+    let begin = cell(rows, i, columns::BODY_BEGIN);
+    let size = cell(rows, i, columns::BODY_SIZE);
     if text::has_text(kind) {
         return is_text(store, begin, size, known);
     }
     if !has_class(kind) {
         return true;
     }
-    if cell(rows, i, COL_CLASS_MARK) != SET {
+    if cell(rows, i, columns::CLASS_MARK) != SET {
         return true;
     }
     if !is_text(store, begin, size, known) {
         return false;
     }
-    if kind == KIND_OBJECT {
+    if kind == kinds::OBJECT {
         return 0 < size;
     }
     !is_star(text::clip(store, begin, size))
@@ -585,7 +531,7 @@ fn row_writable(rows: &[usize], store: &[u8], i: usize, key: Span, body: Span) -
     requires { ⌜ (validText (u.part (now store) (key .begin) (key .size)) ≡ true) × (validText (u.part (now store) (body .begin) (body .size)) ≡ true) ⌝ }
     ensures { λ r. ⌜ r ≡ pass.rowWritable (now (rows .entry)) (now (store .entry)) i ⌝ }
 {
-    let kind = cell(rows, i, COL_KIND);
+    let kind = cell(rows, i, columns::KIND);
     if !number_writable(rows, i, kind) {
         return false;
     }
@@ -594,8 +540,8 @@ fn row_writable(rows: &[usize], store: &[u8], i: usize, key: Span, body: Span) -
     }
     is_text(
         store,
-        cell(rows, i, COL_KEY_BEGIN),
-        cell(rows, i, COL_KEY_SIZE),
+        cell(rows, i, columns::KEY_BEGIN),
+        cell(rows, i, columns::KEY_SIZE),
         key,
     )
 }
@@ -604,11 +550,11 @@ fn row_writable(rows: &[usize], store: &[u8], i: usize, key: Span, body: Span) -
 fn last_key(rows: &[usize], i: usize, known: Span) -> Span
     ensures { λ r. ⌜ r ≡ pass.lastKey (now (rows .entry)) i known ⌝ }
 {
-    let size = cell(rows, i, COL_KEY_SIZE);
+    let size = cell(rows, i, columns::KEY_SIZE);
     if size == 0 {
         return known;
     }
-    let begin = cell(rows, i, COL_KEY_BEGIN);
+    let begin = cell(rows, i, columns::KEY_BEGIN);
     Span { begin, size }
 }
 
@@ -616,14 +562,14 @@ fn last_key(rows: &[usize], i: usize, known: Span) -> Span
 fn last_body(rows: &[usize], i: usize, known: Span) -> Span
     ensures { λ r. ⌜ r ≡ pass.lastBody (now (rows .entry)) i known ⌝ }
 {
-    let kind = cell(rows, i, COL_KIND);
-    let begin = cell(rows, i, COL_BODY_BEGIN);
-    let size = cell(rows, i, COL_BODY_SIZE);
+    let kind = cell(rows, i, columns::KIND);
+    let begin = cell(rows, i, columns::BODY_BEGIN);
+    let size = cell(rows, i, columns::BODY_SIZE);
     if text::has_text(kind) {
         return Span { begin, size };
     }
     if has_class(kind) {
-        if cell(rows, i, COL_CLASS_MARK) == SET {
+        if cell(rows, i, columns::CLASS_MARK) == SET {
             return Span { begin, size };
         }
     }
@@ -635,14 +581,17 @@ fn last_body(rows: &[usize], i: usize, known: Span) -> Span
 fn malformed(row: usize) -> Judged
     ensures { λ r. ⌜ judgedOf r ≡ t.faulty 13 row ⌝ }
 {
-    Judged::Faulty { no: MALFORMED, row }
+    Judged::Faulty {
+        no: refusals::MALFORMED,
+        row,
+    }
 }
 
 fn unwritable(row: usize) -> Judged
     ensures { λ r. ⌜ judgedOf r ≡ t.faulty 14 row ⌝ }
 {
     Judged::Faulty {
-        no: UNWRITABLE,
+        no: refusals::UNWRITABLE,
         row,
     }
 }

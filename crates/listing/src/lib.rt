@@ -1,7 +1,9 @@
 // The listing of a reading, on standard output: a line for its answer, and a line for each row. Any numbers may stand in the rows; of a span, what lies in
 // the store is shown.
 
+use format::refusals;
 use libc::STDOUT_FILENO;
+use rows::kinds;
 ghost use mathlib.Core.Path.{_≡_};
 ghost use Prim.Native.Nat.{_+_, _*_, _≤_, _<_, min};
 ghost use lib.ListN.{length};
@@ -11,46 +13,10 @@ ghost use Rattle.wire.specs.Sign.{ofColumn};
 ghost use Rattle.listing.specs.Words.{joined, kindNames, knownKind, valueOf, decimalOf, tellsValue};
 ghost use Rattle.listing.specs.Hex.{hexOf};
 
-const KIND_BOOLEAN: usize = 3;
-
-const KIND_INTEGER: usize = 4;
-
-const KIND_DOUBLE: usize = 5;
-
-const KIND_DATE: usize = 8;
-
-const KIND_ARRAY: usize = 9;
-
-const KIND_OBJECT: usize = 10;
-
-const KIND_BYTE_ARRAY: usize = 12;
-
-const KIND_INT_VECTOR: usize = 13;
-
-const KIND_DOUBLE_VECTOR: usize = 15;
-
-const KIND_OBJECT_VECTOR: usize = 16;
-
-const KIND_DICTIONARY: usize = 17;
-
-const KIND_REFERENCE: usize = 18;
-
 // Bytes of a name of a kind, with the blanks behind it.
 const NAME_SIZE: usize = 16;
 
 // The refusals of a reading that tell a value.
-const LOAN_AT_FAULT: usize = 1;
-
-const BAD_MARKER: usize = 3;
-
-const PAST_TABLE: usize = 4;
-
-const STILL_OPEN: usize = 5;
-
-const BAD_DATE: usize = 7;
-
-const NO_ROOM: usize = 10;
-
 // ---- what a line has of a row, by its kind
 
 // What a line has of a row's body or number: nothing, the body in hex, or the number in decimal, as a signed one, or as its 64 bits in hex.
@@ -91,7 +57,7 @@ fn kind_names() -> [u8; 304]
 fn known_kind(kind: usize) -> usize
     ensures { λ r. ⌜ r ≡ knownKind kind ⌝ }
 {
-    if kind <= KIND_REFERENCE {
+    if kind <= kinds::REFERENCE {
         return kind;
     }
     0
@@ -100,28 +66,28 @@ fn known_kind(kind: usize) -> usize
 fn value_of(kind: usize) -> Value
     ensures { λ r. ⌜ r ≡ valueOf kind ⌝ }
 {
-    if kind == KIND_INTEGER {
+    if kind == kinds::INTEGER {
         return Value::Signed;
     }
-    if kind == KIND_DOUBLE {
+    if kind == kinds::DOUBLE {
         return Value::Bits;
     }
-    if kind == KIND_BOOLEAN {
+    if kind == kinds::BOOLEAN {
         return Value::Plain;
     }
-    if kind == KIND_DATE {
+    if kind == kinds::DATE {
         return Value::Plain;
     }
-    if kind == KIND_REFERENCE {
+    if kind == kinds::REFERENCE {
         return Value::Plain;
     }
     if text::has_text(kind) {
         return Value::Body;
     }
-    if kind < KIND_BYTE_ARRAY {
+    if kind < kinds::BYTE_ARRAY {
         return Value::Nothing;
     }
-    if kind <= KIND_DOUBLE_VECTOR {
+    if kind <= kinds::DOUBLE_VECTOR {
         return Value::Body;
     }
     Value::Nothing
@@ -267,32 +233,32 @@ fn print_kind(kind: usize) {
 
 // [fixed F | weak F]
 fn print_flag(kind: usize, flag: usize) {
-    if kind < KIND_INT_VECTOR {
+    if kind < kinds::INT_VECTOR {
         return;
     }
-    if kind <= KIND_OBJECT_VECTOR {
+    if kind <= kinds::OBJECT_VECTOR {
         print_named(b" fixed ", flag);
         return;
     }
-    if kind == KIND_DICTIONARY {
+    if kind == kinds::DICTIONARY {
         print_named(b" weak ", flag);
     }
 }
 
 // [assoc A dense D | sealed S dynamic D | entries N]
 fn print_counts(kind: usize, count: usize, count2: usize) {
-    if kind == KIND_ARRAY {
+    if kind == kinds::ARRAY {
         print_named(b" assoc ", count);
         print_named(b" dense ", count2);
     }
-    if kind == KIND_OBJECT {
+    if kind == kinds::OBJECT {
         print_named(b" sealed ", count);
         print_named(b" dynamic ", count2);
     }
-    if kind < KIND_INT_VECTOR {
+    if kind < kinds::INT_VECTOR {
         return;
     }
-    if kind <= KIND_DICTIONARY {
+    if kind <= kinds::DICTIONARY {
         print_named(b" entries ", count);
     }
 }
@@ -352,27 +318,27 @@ pub fn print_finished(rows: &[usize], store: &[u8], n: usize, bytes: usize, take
 fn tells_value(number: usize) -> bool
     ensures { λ r. ⌜ r ≡ tellsValue number ⌝ }
 {
-    if number == LOAN_AT_FAULT {
+    if number == refusals::BAD_LOAN {
         return true;
     }
-    if number == BAD_MARKER {
+    if number == refusals::BAD_MARKER {
         return true;
     }
-    if number == PAST_TABLE {
+    if number == refusals::NO_ENTRY {
         return true;
     }
-    if number == STILL_OPEN {
+    if number == refusals::OPEN_OBJECT {
         return true;
     }
-    if number == BAD_DATE {
+    if number == refusals::BAD_DATE {
         return true;
     }
-    number == NO_ROOM
+    number == refusals::NO_ROOM
 }
 
 // [told X]
 fn print_told(no: usize, told: usize) {
-    if no == BAD_DATE {
+    if no == refusals::BAD_DATE {
         print(b" told ");
         print_bits(told);
         return;

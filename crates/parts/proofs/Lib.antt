@@ -1,11 +1,3 @@
-pub mod Copies
-pub mod Does
-pub mod Ends
-pub mod Loops
 pub mod Regrouped
-pub mod Reserves
 pub mod Shapes
-pub mod Sizes
-pub mod Stays
-pub mod Then
-pub mod Words
+pub mod Bounds

@@ -8,7 +8,8 @@ use Rattle.rows.specs.declared.Span.{Span}
 use Rattle.rows.specs.Memory.{Memory}
 use Rattle.format.specs.Decide.{Width, looking, onRows, fixed, flagged, starred, vectorClass, grown, closed}
 use Rattle.format.specs.Reading.{Result, ok, bad, Reader, bind, _>>=_, _>>_, by, byte, text, plain, filled}
-use Rattle.parts.specs.Held.{cleared, reads, flag, vectorHead}
+use Rattle.scan.specs.Reads.{cleared, reads, flag}
+use Rattle.parts.specs.Heads.{vectorHead}
 
 bind-three : {A B C D : Type 0} (r : Result A) (g : A → Reader B) (h : Reader C) (k : C → Reader D) → bind r (λ a. (g a >> h) >>= k) ≡ bind (bind (bind r g) (λ x. h)) k
 bind-three (ok a m c bs) g h k = refl

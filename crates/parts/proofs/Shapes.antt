@@ -12,7 +12,8 @@ use Rattle.wire.specs.declared.Shape.{Shape}
 use Rattle.wire.specs.declared.Shape.the-variants.{Object, Known, External, Inline}
 use Rattle.format.specs.Decide.{onObjects, entered}
 use Rattle.format.specs.Reading.{Reader, _>>_, ret, by}
-use Rattle.parts.specs.Held.{Rest, nothing, reads, objectRest, knownTrait, externalTrait, newTrait}
+use Rattle.scan.specs.Reads.{reads}
+use Rattle.parts.specs.Heads.{Rest, nothing, objectRest, knownTrait, externalTrait, newTrait}
 
 -- what follows an object that was entered; a reference never is
 abbrev pub traitAfter : ℕ → Shape → Reader (Rest Trait)

@@ -1,5 +1,4 @@
-// What a value is made of, read from a message: words, numbers, texts, bodies, and the beginnings of values, up to where entries are read. Each is the reader
-// of the same name of the definition; `c.at` is the place of the next byte.
+// Strings, numbers and bodies, and the beginnings of the other values, read from a message.
 
 use decide::Done;
 use decide::Refusal;
@@ -7,42 +6,31 @@ use decide::Text;
 use decide::Traited;
 use decide::Whether;
 use decide::Width;
+use format::refusals;
 use rows::Cursor;
 use rows::Span;
 use rows::Trait;
-use wire::Read;
+use scan::Number;
 use wire::Shape;
 use wire::Size;
+ghost use Rattle.scan.specs.Reads.{Reads};
+ghost use Rattle.rows.specs.Memory.{kept};
 ghost use mathlib.Core.Path.{_≡_};
 ghost use mathlib.Core.List.{List};
-ghost use mathlib.Core.Bool.{true, _&&_};
+ghost use mathlib.Core.Bool.{true};
 ghost use Prim.Native.Nat.{ℕ, _+_, _^_, _≤_, _<_};
-ghost use lib.Dec.{leb};
 ghost use lib.ListN.{length};
-ghost use Rattle.rows.specs.Memory.{Memory, memory, messageLimit, rowUsed};
+ghost use Rattle.rows.specs.Memory.{rowUsed};
 ghost use Rattle.wire.specs.declared.Size.the-variants.{New};
-ghost use Rattle.decide.specs.Held.{doneOf, textOf, whetherOf, widthIn};
+ghost use Rattle.decide.specs.Outcomes.{doneOf, textOf, widthIn};
 ghost use Rattle.format.specs.Decide as d;
 ghost use Rattle.format.specs.Reading as r;
-ghost use Rattle.parts.specs.declared.Number.the-variants as number;
 ghost use Rattle.parts.specs.declared.Sized.the-variants as sized;
-ghost use Rattle.parts.specs.Held.{result, reads, numberIn, movedTo, shortAt, withinOf, sizeHead, sizedOf, flag, lastBody};
-ghost use Rattle.parts.specs.Held.{objectHead, inlineTrait, newTrait, knownTrait, externalTrait, classedOf, overOf, vectorHead};
-
-const MESSAGE_LIMIT: usize = 262144;
-
-const TOO_SHORT: usize = 2;
-
-const EXTERNALIZABLE: usize = 6;
-
-const TOO_LONG: usize = 11;
+ghost use Rattle.scan.specs.Reads.{flag};
+ghost use Rattle.parts.specs.Heads.{sizeHead, sizedOf, lastBody};
+ghost use Rattle.parts.specs.Heads.{objectHead, inlineTrait, newTrait, knownTrait, externalTrait, classedOf, overOf, vectorHead};
 
 // ---- answers
-
-pub enum Number {
-    Whole(usize, Cursor),
-    No(Refusal),
-}
 
 // After a size word: a new value of a size is to be read, or a reference is over.
 pub enum Sized {
@@ -59,15 +47,6 @@ pub enum Classed {
 }
 
 // ---- the refusal in an answer that is one
-
-pub fn no_number(a: Number) -> Refusal
-    ensures { λ x. ⌜ ((y : Refusal) → a ≡ number.No y → x ≡ y) ⌝ }
-{
-    match a {
-        Number::Whole(n, c) => decide::lost(),
-        Number::No(y) => y,
-    }
-}
 
 // Nothing is left to read after a size word.
 pub fn over(a: Sized) -> Done
@@ -91,162 +70,11 @@ pub fn object_over(a: Classed) -> Done
     }
 }
 
-// ---- bytes and words
-
-// No byte is left: 2 at the message's end, 11 at the limit.
-fn short(len: usize, at: usize) -> Refusal
-    ensures { λ x. ⌜ x ≡ shortAt len at ⌝ }
-{
-    let mut place = at;
-    if at < len {
-        if at < MESSAGE_LIMIT {
-            place = MESSAGE_LIMIT;
-            if len <= MESSAGE_LIMIT {
-                place = len;
-            }
-        }
-    }
-    if place < len {
-        return Refusal {
-            number: TOO_LONG,
-            told: 0,
-            place,
-        };
-    }
-    Refusal {
-        number: TOO_SHORT,
-        told: 0,
-        place,
-    }
-}
-
-// So many bytes more are there, and within the limit.
-fn here(len: usize, at: usize, n: usize) -> bool
-    ensures { λ x. ⌜ x ≡ (leb (at + n) len && leb (at + n) messageLimit) ⌝ }
-{
-    if wire::fits(len, at, n) {
-        return wire::fits(MESSAGE_LIMIT, at, n);
-    }
-    false
-}
-
-// The cursor at a later place.
-fn moved(c: Cursor, at: usize) -> Cursor
-    ensures { λ x. ⌜ x ≡ movedTo c at ⌝ }
-{
-    let mut after = c;
-    after.at = at;
-    after
-}
-
-pub fn byte(message: &[u8], c: Cursor) -> Number
-    ensures { λ x. ⌜ ((m : Memory) → result (numberIn x) m (now (message .entry)) ≡ reads r.byte m c (now (message .entry))) ⌝ }
-{
-    let at = c.at;
-    if here(message.len(), at, 1) {
-        return Number::Whole(message[at] as usize, moved(c, at + 1));
-    }
-    Number::No(short(message.len(), at))
-}
-
-// The number that was read from the message at `at`, if it lies within the limit.
-fn within(message: &[u8], c: Cursor, read: Read) -> Number
-    ensures { λ x. ⌜ x ≡ withinOf (length (now (message .entry))) c read ⌝ }
-{
-    if let Read::Value(n, next) = read {
-        if next <= MESSAGE_LIMIT {
-            return Number::Whole(n, moved(c, next));
-        }
-    }
-    Number::No(short(message.len(), c.at))
-}
-
-// A U29.
-pub fn word(message: &[u8], c: Cursor) -> Number
-    ensures { λ x. ⌜ ((m : Memory) → result (numberIn x) m (now (message .entry)) ≡ reads (r.u29 3 0) m c (now (message .entry))) × ((n : ℕ) (c′ : Cursor) → x ≡ number.Whole n c′ → n < 2 ^ 29) ⌝ }
-{
-    within(message, c, wire::read_u29(message, c.at))
-}
-
-// Eight bytes.
-pub fn eight(message: &[u8], c: Cursor) -> Number
-    ensures { λ x. ⌜ ((m : Memory) → result (numberIn x) m (now (message .entry)) ≡ reads (r.number 7 0) m c (now (message .entry))) ⌝ }
-{
-    within(message, c, wire::read_be64(message, c.at))
-}
-
 // ---- texts
-
-// The bytes of a span, copied as a whole.
-fn copied(message: &[u8], store: &mut [u8], c: Cursor, s: Span) -> Done
-    requires { ⌜ (0 < s .size → (s .begin + s .size ≤ c .store) × (c .store ≤ length (now store))) ⌝ }
-    ensures { λ x. ⌜ ((R T O U N : List ℕ) → result (doneOf x) (memory R (now (store .exit)) T O U N) (now (message .entry)) ≡ reads (r.filled (λ left. r.ret tt) s (s .size)) (memory R (now (store .entry)) T O U N) c (now (message .entry))) ⌝ }
-{
-    let at = c.at;
-    let n = s.size;
-    if n == 0 {
-        return Done::Fine(c);
-    }
-    if here(message.len(), at, n) {
-        rows::copy(store, s.begin, message, at, n);
-        return Done::Fine(moved(c, at + n));
-    }
-    Done::Refused(short(message.len(), at))
-}
-
-// The bytes of a span, copied as a whole, and whether they are a text.
-fn checked(message: &[u8], store: &mut [u8], c: Cursor, s: Span) -> Whether
-    requires { ⌜ (0 < s .size → (s .begin + s .size ≤ c .store) × (c .store ≤ length (now store))) ⌝ }
-    ensures { λ x. ⌜ ((R T O U N : List ℕ) → result (whetherOf x) (memory R (now (store .exit)) T O U N) (now (message .entry)) ≡ reads (r.charsOf s (s .size)) (memory R (now (store .entry)) T O U N) c (now (message .entry))) ⌝ }
-{
-    let at = c.at;
-    let n = s.size;
-    if n == 0 {
-        return Whether::Is(true, c);
-    }
-    if here(message.len(), at, n) {
-        rows::copy(store, s.begin, message, at, n);
-        return Whether::Is(utf8::valid(&message[at..at + n]), moved(c, at + n));
-    }
-    Whether::No(short(message.len(), at))
-}
-
-// A new text of `size` bytes, which enters the strings; an empty one doesn't.
-fn new_text(message: &[u8], store: &mut [u8], strings: &mut [usize], c: Cursor, size: usize) -> Text
-    ensures { λ x. ⌜ ((R O U N : List ℕ) → result (textOf x) (memory R (now (store .exit)) (now (strings .exit)) O U N) (now (message .entry)) ≡ reads (r.textOf r.plain (New size)) (memory R (now (store .entry)) (now (strings .entry)) O U N) c (now (message .entry))) ⌝ }
-{
-    if size == 0 {
-        return Text::Have(Span { begin: 0, size: 0 }, c);
-    }
-    let a = decide::reserved(store.len(), c, size);
-    let Text::Have(s, c1) = a else {
-        return a;
-    };
-    let b = checked(message, store, c1, s);
-    let Whether::Is(valid, c2) = b else {
-        return Text::No(decide::no_flag(b));
-    };
-    decide::text_end(strings, c2, s, valid)
-}
-
-// A key, a class or a name.
-pub fn text(message: &[u8], store: &mut [u8], strings: &mut [usize], c: Cursor) -> Text
-    ensures { λ x. ⌜ ((R O U N : List ℕ) → result (textOf x) (memory R (now (store .exit)) (now (strings .exit)) O U N) (now (message .entry)) ≡ reads (r.text r.plain) (memory R (now (store .entry)) (now (strings .entry)) O U N) c (now (message .entry))) ⌝ }
-{
-    let a = word(message, c);
-    let Number::Whole(w, c1) = a else {
-        return Text::No(no_number(a));
-    };
-    let size = wire::size_of(w);
-    match size {
-        Size::Old(i) => decide::old_text(strings, c1, i),
-        Size::New(n) => new_text(message, store, strings, c1, n),
-    }
-}
 
 // The span is the row's body, and the row ends.
 fn shown(rows: &mut [usize], c: Cursor, row: usize, s: Span) -> Done
-    ensures { λ x. ⌜ ((B T O U N bs : List ℕ) → result (doneOf x) (memory (now (rows .exit)) B T O U N) bs ≡ reads (lastBody row s) (memory (now (rows .entry)) B T O U N) c bs) ⌝ }
+    ensures { λ x. ⌜ ((B T O U N bs : List ℕ) → Reads (doneOf x) bs c rows (kept B) (kept T) (kept O) (kept U) (kept N) (lastBody row s)) ⌝ }
 {
     let a = decide::bodied(rows, c, row, s);
     let Done::Fine(c1) = a else {
@@ -265,7 +93,8 @@ fn new_string(
     row: usize,
     n: usize,
 ) -> Text
-    ensures { λ x. ⌜ ((O U N : List ℕ) → result (textOf x) (memory (now (rows .exit)) (now (store .exit)) (now (strings .exit)) O U N) (now (message .entry)) ≡ reads (r.textOf (λ s. r.by (d.onRows (d.bodied row s))) (New n)) (memory (now (rows .entry)) (now (store .entry)) (now (strings .entry)) O U N) c (now (message .entry))) ⌝ }
+    ensures { λ x. ⌜ ((O U N : List ℕ) → Reads (textOf x) (now (message .entry)) c rows store strings (kept O) (kept U) (kept N)
+        (r.textOf (λ s. r.by (d.onRows (d.bodied row s))) (New n))) ⌝ }
 {
     if n == 0 {
         return Text::Have(Span { begin: 0, size: 0 }, c);
@@ -278,7 +107,7 @@ fn new_string(
     let Done::Fine(c2) = e else {
         return Text::No(decide::not_done(e));
     };
-    let b = checked(message, store, c2, s);
+    let b = scan::checked(message, store, c2, s);
     let Whether::Is(valid, c3) = b else {
         return Text::No(decide::no_flag(b));
     };
@@ -294,11 +123,12 @@ fn string_text(
     c: Cursor,
     row: usize,
 ) -> Text
-    ensures { λ x. ⌜ ((O U N : List ℕ) → result (textOf x) (memory (now (rows .exit)) (now (store .exit)) (now (strings .exit)) O U N) (now (message .entry)) ≡ reads (r.text (λ s. r.by (d.onRows (d.bodied row s)))) (memory (now (rows .entry)) (now (store .entry)) (now (strings .entry)) O U N) c (now (message .entry))) ⌝ }
+    ensures { λ x. ⌜ ((O U N : List ℕ) → Reads (textOf x) (now (message .entry)) c rows store strings (kept O) (kept U) (kept N)
+        (r.text (λ s. r.by (d.onRows (d.bodied row s))))) ⌝ }
 {
-    let a = word(message, c);
+    let a = scan::word(message, c);
     let Number::Whole(w, c1) = a else {
-        return Text::No(no_number(a));
+        return Text::No(scan::no_number(a));
     };
     let size = wire::size_of(w);
     match size {
@@ -315,7 +145,8 @@ pub fn string(
     c: Cursor,
     row: usize,
 ) -> Done
-    ensures { λ x. ⌜ ((value : r.Values) (O U N : List ℕ) → result (doneOf x) (memory (now (rows .exit)) (now (store .exit)) (now (strings .exit)) O U N) (now (message .entry)) ≡ reads (r.marked value row d.string) (memory (now (rows .entry)) (now (store .entry)) (now (strings .entry)) O U N) c (now (message .entry))) ⌝ }
+    ensures { λ x. ⌜ ((value : r.Values) (O U N : List ℕ)
+        → Reads (doneOf x) (now (message .entry)) c rows store strings (kept O) (kept U) (kept N) (r.marked value row d.string)) ⌝ }
 {
     let a = string_text(message, rows, store, strings, c, row);
     let Text::Have(s, c1) = a else {
@@ -327,31 +158,34 @@ pub fn string(
 // ---- numbers
 
 pub fn integer(message: &[u8], rows: &mut [usize], c: Cursor, row: usize) -> Done
-    ensures { λ x. ⌜ ((value : r.Values) (B T O U N : List ℕ) → result (doneOf x) (memory (now (rows .exit)) B T O U N) (now (message .entry)) ≡ reads (r.marked value row d.integer) (memory (now (rows .entry)) B T O U N) c (now (message .entry))) ⌝ }
+    ensures { λ x. ⌜ ((value : r.Values) (B T O U N : List ℕ)
+        → Reads (doneOf x) (now (message .entry)) c rows (kept B) (kept T) (kept O) (kept U) (kept N) (r.marked value row d.integer)) ⌝ }
 {
-    let a = word(message, c);
+    let a = scan::word(message, c);
     let Number::Whole(w, c1) = a else {
-        return Done::Refused(no_number(a));
+        return Done::Refused(scan::no_number(a));
     };
     decide::integer_end(rows, c1, row, w)
 }
 
 pub fn double(message: &[u8], rows: &mut [usize], c: Cursor, row: usize) -> Done
-    ensures { λ x. ⌜ ((value : r.Values) (B T O U N : List ℕ) → result (doneOf x) (memory (now (rows .exit)) B T O U N) (now (message .entry)) ≡ reads (r.marked value row d.double) (memory (now (rows .entry)) B T O U N) c (now (message .entry))) ⌝ }
+    ensures { λ x. ⌜ ((value : r.Values) (B T O U N : List ℕ)
+        → Reads (doneOf x) (now (message .entry)) c rows (kept B) (kept T) (kept O) (kept U) (kept N) (r.marked value row d.double)) ⌝ }
 {
-    let a = eight(message, c);
+    let a = scan::eight(message, c);
     let Number::Whole(bits, c1) = a else {
-        return Done::Refused(no_number(a));
+        return Done::Refused(scan::no_number(a));
     };
     decide::numbered(rows, c1, row, bits)
 }
 
 pub fn date(message: &[u8], rows: &mut [usize], c: Cursor, row: usize) -> Done
-    ensures { λ x. ⌜ ((value : r.Values) (n : ℕ) (B T O U N : List ℕ) → result (doneOf x) (memory (now (rows .exit)) B T O U N) (now (message .entry)) ≡ reads (r.newOf value row d.date n) (memory (now (rows .entry)) B T O U N) c (now (message .entry))) ⌝ }
+    ensures { λ x. ⌜ ((value : r.Values) (n : ℕ) (B T O U N : List ℕ)
+        → Reads (doneOf x) (now (message .entry)) c rows (kept B) (kept T) (kept O) (kept U) (kept N) (r.newOf value row d.date n)) ⌝ }
 {
-    let a = eight(message, c);
+    let a = scan::eight(message, c);
     let Number::Whole(bits, c1) = a else {
-        return Done::Refused(no_number(a));
+        return Done::Refused(scan::no_number(a));
     };
     decide::date_end(rows, c1, row, bits)
 }
@@ -360,7 +194,7 @@ pub fn date(message: &[u8], rows: &mut [usize], c: Cursor, row: usize) -> Done
 
 // Room for a body of `n` bytes in a store of `len`, which its row shows at once; an empty one needs none.
 fn room(rows: &mut [usize], len: usize, c: Cursor, row: usize, n: usize) -> Text
-    ensures { λ x. ⌜ ((B T O U N bs : List ℕ) → length B ≡ len → result (textOf x) (memory (now (rows .exit)) B T O U N) bs ≡ reads (r.room row n) (memory (now (rows .entry)) B T O U N) c bs) ⌝ }
+    ensures { λ x. ⌜ ((B T O U N bs : List ℕ) → length B ≡ len → Reads (textOf x) bs c rows (kept B) (kept T) (kept O) (kept U) (kept N) (r.room row n)) ⌝ }
 {
     if n == 0 {
         return Text::Have(Span { begin: 0, size: 0 }, c);
@@ -384,13 +218,14 @@ pub fn xml(
     row: usize,
     n: usize,
 ) -> Done
-    ensures { λ x. ⌜ ((value : r.Values) (T O U N : List ℕ) → result (doneOf x) (memory (now (rows .exit)) (now (store .exit)) T O U N) (now (message .entry)) ≡ reads (r.newOf value row d.xml n) (memory (now (rows .entry)) (now (store .entry)) T O U N) c (now (message .entry))) ⌝ }
+    ensures { λ x. ⌜ ((value : r.Values) (T O U N : List ℕ)
+        → Reads (doneOf x) (now (message .entry)) c rows store (kept T) (kept O) (kept U) (kept N) (r.newOf value row d.xml n)) ⌝ }
 {
     let a = room(rows, store.len(), c, row, n);
     let Text::Have(s, c1) = a else {
         return Done::Refused(decide::no_text(a));
     };
-    let b = checked(message, store, c1, s);
+    let b = scan::checked(message, store, c1, s);
     let Whether::Is(valid, c2) = b else {
         return Done::Refused(decide::no_flag(b));
     };
@@ -409,13 +244,14 @@ pub fn bytes(
     row: usize,
     n: usize,
 ) -> Done
-    ensures { λ x. ⌜ ((value : r.Values) (T O U N : List ℕ) → result (doneOf x) (memory (now (rows .exit)) (now (store .exit)) T O U N) (now (message .entry)) ≡ reads (r.newOf value row d.bytes n) (memory (now (rows .entry)) (now (store .entry)) T O U N) c (now (message .entry))) ⌝ }
+    ensures { λ x. ⌜ ((value : r.Values) (T O U N : List ℕ)
+        → Reads (doneOf x) (now (message .entry)) c rows store (kept T) (kept O) (kept U) (kept N) (r.newOf value row d.bytes n)) ⌝ }
 {
     let a = room(rows, store.len(), c, row, n);
     let Text::Have(s, c1) = a else {
         return Done::Refused(decide::no_text(a));
     };
-    let b = copied(message, store, c1, s);
+    let b = scan::copied(message, store, c1, s);
     let Done::Fine(c2) = b else {
         return b;
     };
@@ -424,11 +260,11 @@ pub fn bytes(
 
 // A flag byte: fixed is any but 0.
 pub fn fixed_flag(message: &[u8], rows: &mut [usize], c: Cursor, row: usize) -> Done
-    ensures { λ x. ⌜ ((B T O U N : List ℕ) → result (doneOf x) (memory (now (rows .exit)) B T O U N) (now (message .entry)) ≡ reads (flag d.fixed row) (memory (now (rows .entry)) B T O U N) c (now (message .entry))) ⌝ }
+    ensures { λ x. ⌜ ((B T O U N : List ℕ) → Reads (doneOf x) (now (message .entry)) c rows (kept B) (kept T) (kept O) (kept U) (kept N) (flag d.fixed row)) ⌝ }
 {
-    let a = byte(message, c);
+    let a = scan::byte(message, c);
     let Number::Whole(b, c1) = a else {
-        return Done::Refused(no_number(a));
+        return Done::Refused(scan::no_number(a));
     };
     decide::flagged(rows, c1, row, decide::fixed(b))
 }
@@ -442,13 +278,13 @@ pub fn vector_head(
     c: Cursor,
     row: usize,
 ) -> Done
-    ensures { λ x. ⌜ ((O U N : List ℕ) → result (doneOf x) (memory (now (rows .exit)) (now (store .exit)) (now (strings .exit)) O U N) (now (message .entry)) ≡ reads (vectorHead row) (memory (now (rows .entry)) (now (store .entry)) (now (strings .entry)) O U N) c (now (message .entry))) ⌝ }
+    ensures { λ x. ⌜ ((O U N : List ℕ) → Reads (doneOf x) (now (message .entry)) c rows store strings (kept O) (kept U) (kept N) (vectorHead row)) ⌝ }
 {
     let a = fixed_flag(message, rows, c, row);
     let Done::Fine(c1) = a else {
         return a;
     };
-    let b = text(message, store, strings, c1);
+    let b = scan::text(message, store, strings, c1);
     let Text::Have(s, c2) = b else {
         return Done::Refused(decide::no_text(b));
     };
@@ -461,11 +297,11 @@ pub fn vector_head(
 
 // A flag byte: weak is only 1.
 pub fn weak_flag(message: &[u8], rows: &mut [usize], c: Cursor, row: usize) -> Done
-    ensures { λ x. ⌜ ((B T O U N : List ℕ) → result (doneOf x) (memory (now (rows .exit)) B T O U N) (now (message .entry)) ≡ reads (flag d.weak row) (memory (now (rows .entry)) B T O U N) c (now (message .entry))) ⌝ }
+    ensures { λ x. ⌜ ((B T O U N : List ℕ) → Reads (doneOf x) (now (message .entry)) c rows (kept B) (kept T) (kept O) (kept U) (kept N) (flag d.weak row)) ⌝ }
 {
-    let a = byte(message, c);
+    let a = scan::byte(message, c);
     let Number::Whole(b, c1) = a else {
-        return Done::Refused(no_number(a));
+        return Done::Refused(scan::no_number(a));
     };
     decide::flagged(rows, c1, row, decide::weak(b))
 }
@@ -481,12 +317,13 @@ fn raw_copied(
     s: Span,
 ) -> Done
     requires { ⌜ (0 < s .size → (s .begin + s .size ≤ c .store) × (c .store ≤ length (now store))) × (rowUsed (now rows) c row ≡ true) ⌝ }
-    ensures { λ x. ⌜ ((T O U N : List ℕ) → result (doneOf x) (memory (now (rows .exit)) (now (store .exit)) T O U N) (now (message .entry)) ≡ reads (r.filled (λ left. r.by (d.onRows (d.grown row (widthIn w) s left))) s (s .size)) (memory (now (rows .entry)) (now (store .entry)) T O U N) c (now (message .entry))) ⌝ }
+    ensures { λ x. ⌜ ((T O U N : List ℕ) → Reads (doneOf x) (now (message .entry)) c rows store (kept T) (kept O) (kept U) (kept N)
+        (r.filled (λ left. r.by (d.onRows (d.grown row (widthIn w) s left))) s (s .size))) ⌝ }
 {
     if s.size == 0 {
         return Done::Fine(c);
     }
-    let a = copied(message, store, c, s);
+    let a = scan::copied(message, store, c, s);
     let Done::Fine(c1) = a else {
         return a;
     };
@@ -504,7 +341,8 @@ pub fn raw(
     n: usize,
 ) -> Done
     requires { ⌜ n < 2 ^ 29 ⌝ }
-    ensures { λ x. ⌜ ((value : r.Values) (T O U N : List ℕ) → result (doneOf x) (memory (now (rows .exit)) (now (store .exit)) T O U N) (now (message .entry)) ≡ reads (r.newOf value row (d.raw (widthIn w)) n) (memory (now (rows .entry)) (now (store .entry)) T O U N) c (now (message .entry))) ⌝ }
+    ensures { λ x. ⌜ ((value : r.Values) (T O U N : List ℕ)
+        → Reads (doneOf x) (now (message .entry)) c rows store (kept T) (kept O) (kept U) (kept N) (r.newOf value row (d.raw (widthIn w)) n)) ⌝ }
 {
     let size = n * decide::width_of(w);
     let a = room(rows, store.len(), c, row, size);
@@ -532,11 +370,12 @@ pub fn size_head(
     c: Cursor,
     row: usize,
 ) -> Sized
-    ensures { λ x. ⌜ ((B T U N : List ℕ) → result (sizedOf x) (memory (now (rows .exit)) B T (now (objects .exit)) U N) (now (message .entry)) ≡ reads (sizeHead row) (memory (now (rows .entry)) B T (now (objects .entry)) U N) c (now (message .entry))) × ((n : ℕ) (c′ : Cursor) → x ≡ sized.New n c′ → n < 2 ^ 29) ⌝ }
+    ensures { λ x. ⌜ ((B T U N : List ℕ) → Reads (sizedOf x) (now (message .entry)) c rows (kept B) (kept T) objects (kept U) (kept N) (sizeHead row))
+        × ((n : ℕ) (c′ : Cursor) → x ≡ sized.New n c′ → n < 2 ^ 29) ⌝ }
 {
-    let a = word(message, c);
+    let a = scan::word(message, c);
     let Number::Whole(w, c1) = a else {
-        return Sized::No(no_number(a));
+        return Sized::No(scan::no_number(a));
     };
     let size = wire::size_of(w);
     match size {
@@ -566,12 +405,12 @@ fn name_list(
     c: Cursor,
     n: usize,
 ) -> Done
-    ensures { λ x. ⌜ ((R O U : List ℕ) → result (doneOf x) (memory R (now (store .exit)) (now (strings .exit)) O U (now (names .exit))) (now (message .entry)) ≡ reads (r.names n) (memory R (now (store .entry)) (now (strings .entry)) O U (now (names .entry))) c (now (message .entry))) ⌝ }
+    ensures { λ x. ⌜ ((R O U : List ℕ) → Reads (doneOf x) (now (message .entry)) c (kept R) store strings (kept O) (kept U) names (r.names n)) ⌝ }
 {
     let mut cur = c;
     let mut i = 0;
     while i < n {
-        let a = text(message, store, strings, cur);
+        let a = scan::text(message, store, strings, cur);
         let Text::Have(s, c1) = a else {
             return Done::Refused(decide::no_text(a));
         };
@@ -597,7 +436,7 @@ fn inline_trait(
     row: usize,
     t: Trait,
 ) -> Classed
-    ensures { λ x. ⌜ ((O : List ℕ) → result (classedOf x) (memory (now (rows .exit)) (now (store .exit)) (now (strings .exit)) O (now (traits .exit)) (now (names .exit))) (now (message .entry)) ≡ reads (inlineTrait row t) (memory (now (rows .entry)) (now (store .entry)) (now (strings .entry)) O (now (traits .entry)) (now (names .entry))) c (now (message .entry))) ⌝ }
+    ensures { λ x. ⌜ ((O : List ℕ) → Reads (classedOf x) (now (message .entry)) c rows store strings (kept O) traits names (inlineTrait row t)) ⌝ }
 {
     let a = decide::object_class(rows, c, row, t);
     let Done::Fine(c1) = a else {
@@ -616,7 +455,7 @@ fn inline_trait(
 
 // A trait that was read before.
 fn known_trait(rows: &mut [usize], traits: &[usize], c: Cursor, row: usize, i: usize) -> Classed
-    ensures { λ x. ⌜ ((B T O N bs : List ℕ) → result (classedOf x) (memory (now (rows .exit)) B T O (now (traits .entry)) N) bs ≡ reads (knownTrait row i) (memory (now (rows .entry)) B T O (now (traits .entry)) N) c bs) ⌝ }
+    ensures { λ x. ⌜ ((B T O N bs : List ℕ) → Reads (classedOf x) bs c rows (kept B) (kept T) (kept O) traits (kept N) (knownTrait row i)) ⌝ }
 {
     let a = decide::old_trait(traits, c, i);
     let Traited::Known(t, c1) = a else {
@@ -642,9 +481,9 @@ fn new_trait(
     n: usize,
     dynamic: usize,
 ) -> Classed
-    ensures { λ x. ⌜ ((O : List ℕ) → result (classedOf x) (memory (now (rows .exit)) (now (store .exit)) (now (strings .exit)) O (now (traits .exit)) (now (names .exit))) (now (message .entry)) ≡ reads (newTrait row n dynamic) (memory (now (rows .entry)) (now (store .entry)) (now (strings .entry)) O (now (traits .entry)) (now (names .entry))) c (now (message .entry))) ⌝ }
+    ensures { λ x. ⌜ ((O : List ℕ) → Reads (classedOf x) (now (message .entry)) c rows store strings (kept O) traits names (newTrait row n dynamic)) ⌝ }
 {
-    let a = text(message, store, strings, c);
+    let a = scan::text(message, store, strings, c);
     let Text::Have(s, c1) = a else {
         return Classed::No(decide::no_text(a));
     };
@@ -663,13 +502,13 @@ fn new_trait(
 
 // An externalizable class is refused after its name.
 fn external(message: &[u8], store: &mut [u8], strings: &mut [usize], c: Cursor) -> Classed
-    ensures { λ x. ⌜ ((R O U N : List ℕ) → result (classedOf x) (memory R (now (store .exit)) (now (strings .exit)) O U N) (now (message .entry)) ≡ reads externalTrait (memory R (now (store .entry)) (now (strings .entry)) O U N) c (now (message .entry))) ⌝ }
+    ensures { λ x. ⌜ ((R O U N : List ℕ) → Reads (classedOf x) (now (message .entry)) c (kept R) store strings (kept O) (kept U) (kept N) externalTrait) ⌝ }
 {
-    let a = text(message, store, strings, c);
+    let a = scan::text(message, store, strings, c);
     let Text::Have(s, c1) = a else {
         return Classed::No(decide::no_text(a));
     };
-    Classed::No(decide::refuse(c1, EXTERNALIZABLE, 0))
+    Classed::No(decide::refuse(c1, refusals::EXTERNALIZABLE, 0))
 }
 
 // An object's word: a reference, or an object, which enters the objects, and its trait.
@@ -684,11 +523,11 @@ pub fn object_head(
     c: Cursor,
     row: usize,
 ) -> Classed
-    ensures { λ x. ⌜ result (classedOf x) (memory (now (rows .exit)) (now (store .exit)) (now (strings .exit)) (now (objects .exit)) (now (traits .exit)) (now (names .exit))) (now (message .entry)) ≡ reads (objectHead row) (memory (now (rows .entry)) (now (store .entry)) (now (strings .entry)) (now (objects .entry)) (now (traits .entry)) (now (names .entry))) c (now (message .entry)) ⌝ }
+    ensures { λ x. ⌜ Reads (classedOf x) (now (message .entry)) c rows store strings objects traits names (objectHead row) ⌝ }
 {
-    let a = word(message, c);
+    let a = scan::word(message, c);
     let Number::Whole(w, c1) = a else {
-        return Classed::No(no_number(a));
+        return Classed::No(scan::no_number(a));
     };
     let shape = wire::shape_of(w);
     if let Shape::Object(i) = shape {

@@ -12,18 +12,28 @@ use Rattle.format.specs.Text.{Found, nowhere, found}
 use Rattle.pinebuckle.specs.declared.Coded.{Coded}
 use Rattle.pinebuckle.specs.declared.Place.{Place}
 
--- kind 0 waiting, 1 finished, 2 refused; numbers without meaning are 0
+-- what an answer says
+abbrev pub sayWaiting : ℕ
+sayWaiting = 0
+
+abbrev pub sayFinished : ℕ
+sayFinished = 1
+
+abbrev pub sayRefused : ℕ
+sayRefused = 2
+
+-- numbers without meaning are 0
 abbrev pub code : ℕ → ℕ → ℕ → ℕ → ℕ → ℕ → ℕ → Coded
 code kind number told place rows bytes taken = record { kind = kind; no = number; told = told; place = place; rows = rows; bytes = bytes; taken = taken }
 
 abbrev pub codeOf : Answer → Coded
-codeOf (Waiting taken) = code 0 0 0 0 0 0 taken
-codeOf (Finished rows bytes taken) = code 1 0 0 0 rows bytes taken
-codeOf (Refused number told place taken) = code 2 number told place 0 0 taken
+codeOf (Waiting taken) = code sayWaiting 0 0 0 0 0 taken
+codeOf (Finished rows bytes taken) = code sayFinished 0 0 0 rows bytes taken
+codeOf (Refused number told place taken) = code sayRefused number told place 0 0 taken
 
 abbrev pub writtenCode : Written → Coded
-writtenCode (Bytes n) = code 1 0 0 0 0 n 0
-writtenCode (Unwritten number told place) = code 2 number told place 0 0 0
+writtenCode (Bytes n) = code sayFinished 0 0 0 0 n 0
+writtenCode (Unwritten number told place) = code sayRefused number told place 0 0 0
 
 -- an answer with the state and the loans, with the loans, with the output, that it left
 pub data Passed : Type 0 where

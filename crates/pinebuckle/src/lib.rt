@@ -1,18 +1,31 @@
 // The public calls, and the same as C has them. For C numbers are 64 bits, a slice is a pointer and a count of elements; include/pinebuckle.h declares
 // them.
 
-use feed::Fed;
-use feed::State;
-use format::Answer;
+use format::Frames;
 use format::Head;
-use format::Written;
 use text::Found;
+// All that a caller names: the state, the calls on one by value, the answers, and the numbers of widths, columns, kinds, loans and refusals.
+pub use feed::Fed;
+pub use feed::State;
+pub use feed::begun;
+pub use feed::ended;
+pub use feed::fed_on;
+pub use format::Answer;
+pub use format::Written;
+pub use format::refusals;
+pub use rows::ROW_WIDTH;
+pub use rows::SPAN_WIDTH;
+pub use rows::TRAIT_WIDTH;
+pub use rows::columns;
+pub use rows::kinds;
+pub use rows::loans;
+ghost use Rattle.rows.specs.Memory.{atEntry, atExit, Memory};
 ghost use mathlib.Core.Path.{_≡_};
-ghost use Rattle.rows.specs.Memory.{Memory, memory};
 ghost use Rattle.format.specs.Answers.{fed, beginCall, feedCall, endCall, read, readCall, output, writeCall, textCall};
 ghost use Rattle.format.specs.Text.{textSpan};
-ghost use Rattle.feed.specs.Held.{numbers, stateNumbers};
-ghost use Rattle.pinebuckle.specs.Coding.{codeOf, passed, codedFed, left, codedRead, put, codedWrite, spanCode};
+ghost use Rattle.pieces.specs.States.{numbers};
+ghost use Rattle.feed.specs.Calls.{stateNumbers};
+ghost use Rattle.pinebuckle.specs.Coding.{sayWaiting, sayFinished, sayRefused, code, codeOf, passed, codedFed, left, codedRead, put, codedWrite, spanCode};
 
 // Begins a reading: it waits for the first byte, or a loan is wrong.
 pub fn begin(
@@ -24,7 +37,8 @@ pub fn begin(
     traits: &mut [usize],
     names: &mut [usize],
 ) -> Answer
-    ensures { λ r. ⌜ fed r (stateNumbers (now (state .exit))) (memory (now (rows .exit)) (now (store .exit)) (now (strings .exit)) (now (objects .exit)) (now (traits .exit)) (now (names .exit))) ≡ beginCall (memory (now (rows .entry)) (now (store .entry)) (now (strings .entry)) (now (objects .entry)) (now (traits .entry)) (now (names .entry))) ⌝ }
+    ensures { λ r. ⌜ fed r (stateNumbers (now (state .exit))) (atExit rows store strings objects traits names)
+        ≡ beginCall (atEntry rows store strings objects traits names) ⌝ }
 {
     let out = feed::begun(rows, store, strings, objects, traits, names);
     *state = out.state;
@@ -42,7 +56,8 @@ pub fn feed(
     names: &mut [usize],
     piece: &[u8],
 ) -> Answer
-    ensures { λ r. ⌜ fed r (stateNumbers (now (state .exit))) (memory (now (rows .exit)) (now (store .exit)) (now (strings .exit)) (now (objects .exit)) (now (traits .exit)) (now (names .exit))) ≡ feedCall (stateNumbers (now (state .entry))) (memory (now (rows .entry)) (now (store .entry)) (now (strings .entry)) (now (objects .entry)) (now (traits .entry)) (now (names .entry))) (now (piece .entry)) ⌝ }
+    ensures { λ r. ⌜ fed r (stateNumbers (now (state .exit))) (atExit rows store strings objects traits names)
+        ≡ feedCall (stateNumbers (now (state .entry))) (atEntry rows store strings objects traits names) (now (piece .entry)) ⌝ }
 {
     let out = feed::fed_in(
         state.head,
@@ -69,7 +84,8 @@ pub fn end(
     traits: &mut [usize],
     names: &mut [usize],
 ) -> Answer
-    ensures { λ r. ⌜ fed r (stateNumbers (now (state .exit))) (memory (now (rows .exit)) (now (store .exit)) (now (strings .exit)) (now (objects .exit)) (now (traits .exit)) (now (names .exit))) ≡ endCall (stateNumbers (now (state .entry))) (memory (now (rows .entry)) (now (store .entry)) (now (strings .entry)) (now (objects .entry)) (now (traits .entry)) (now (names .entry))) ⌝ }
+    ensures { λ r. ⌜ fed r (stateNumbers (now (state .exit))) (atExit rows store strings objects traits names)
+        ≡ endCall (stateNumbers (now (state .entry))) (atEntry rows store strings objects traits names) ⌝ }
 {
     let out = feed::ended(*state, rows, store, strings, objects, traits, names);
     *state = out.state;
@@ -86,7 +102,7 @@ pub fn read(
     names: &mut [usize],
     message: &[u8],
 ) -> Answer
-    ensures { λ r. ⌜ read r (memory (now (rows .exit)) (now (store .exit)) (now (strings .exit)) (now (objects .exit)) (now (traits .exit)) (now (names .exit))) ≡ readCall (memory (now (rows .entry)) (now (store .entry)) (now (strings .entry)) (now (objects .entry)) (now (traits .entry)) (now (names .entry))) (now (message .entry)) ⌝ }
+    ensures { λ r. ⌜ read r (atExit rows store strings objects traits names) ≡ readCall (atEntry rows store strings objects traits names) (now (message .entry)) ⌝ }
 {
     whole::read(rows, store, strings, objects, traits, names, message)
 }
@@ -107,11 +123,12 @@ pub fn text<'a>(rows: &'a [usize], store: &'a [u8], row: usize, default: &'a [u8
 
 // ---- as C has them
 
-const WAITING: usize = 0;
+// What an answer says.
+const SAY_WAITING: usize = 0;
 
-const FINISHED: usize = 1;
+const SAY_FINISHED: usize = 1;
 
-const REFUSED: usize = 2;
+const SAY_REFUSED: usize = 2;
 
 // An answer: waiting, finished or refused, with its numbers; those without meaning are 0.
 #[repr(C)]
@@ -134,10 +151,10 @@ pub struct Place {
 }
 
 fn refused(no: usize, told: usize, place: usize, taken: usize) -> Coded
-    ensures { λ x. ⌜ x ≡ record { kind = 2; no = no; told = told; place = place; rows = 0; bytes = 0; taken = taken } ⌝ }
+    ensures { λ x. ⌜ x ≡ code sayRefused no told place 0 0 taken ⌝ }
 {
     Coded {
-        kind: REFUSED,
+        kind: SAY_REFUSED,
         no,
         told,
         place,
@@ -148,10 +165,10 @@ fn refused(no: usize, told: usize, place: usize, taken: usize) -> Coded
 }
 
 fn finished(rows: usize, bytes: usize, taken: usize) -> Coded
-    ensures { λ x. ⌜ x ≡ record { kind = 1; no = 0; told = 0; place = 0; rows = rows; bytes = bytes; taken = taken } ⌝ }
+    ensures { λ x. ⌜ x ≡ code sayFinished 0 0 0 rows bytes taken ⌝ }
 {
     Coded {
-        kind: FINISHED,
+        kind: SAY_FINISHED,
         no: 0,
         told: 0,
         place: 0,
@@ -162,10 +179,10 @@ fn finished(rows: usize, bytes: usize, taken: usize) -> Coded
 }
 
 fn waiting(taken: usize) -> Coded
-    ensures { λ x. ⌜ x ≡ record { kind = 0; no = 0; told = 0; place = 0; rows = 0; bytes = 0; taken = taken } ⌝ }
+    ensures { λ x. ⌜ x ≡ code sayWaiting 0 0 0 0 0 taken ⌝ }
 {
     Coded {
-        kind: WAITING,
+        kind: SAY_WAITING,
         no: 0,
         told: 0,
         place: 0,
@@ -215,7 +232,7 @@ pub struct HeadCoded {
 
 fn fed_in_coded(
     h: Head,
-    frames: &mut [usize; 384],
+    frames: &mut Frames,
     rows: &mut [usize],
     store: &mut [u8],
     strings: &mut [usize],
@@ -224,7 +241,8 @@ fn fed_in_coded(
     names: &mut [usize],
     piece: &[u8],
 ) -> HeadCoded
-    ensures { λ r. ⌜ passed (r .coded) (numbers (r .head) (now (frames .exit))) (memory (now (rows .exit)) (now (store .exit)) (now (strings .exit)) (now (objects .exit)) (now (traits .exit)) (now (names .exit))) ≡ codedFed (feedCall (numbers h (now (frames .entry))) (memory (now (rows .entry)) (now (store .entry)) (now (strings .entry)) (now (objects .entry)) (now (traits .entry)) (now (names .entry))) (now (piece .entry))) ⌝ }
+    ensures { λ r. ⌜ passed (r .coded) (numbers (r .head) (now (frames .exit))) (atExit rows store strings objects traits names)
+        ≡ codedFed (feedCall (numbers h (now (frames .entry))) (atEntry rows store strings objects traits names) (now (piece .entry))) ⌝ }
 {
     let out = feed::fed_in(
         h,
@@ -253,7 +271,8 @@ fn begun_coded(
     traits: &mut [usize],
     names: &mut [usize],
 ) -> StateCoded
-    ensures { λ r. ⌜ passed (r .coded) (stateNumbers (r .state)) (memory (now (rows .exit)) (now (store .exit)) (now (strings .exit)) (now (objects .exit)) (now (traits .exit)) (now (names .exit))) ≡ codedFed (beginCall (memory (now (rows .entry)) (now (store .entry)) (now (strings .entry)) (now (objects .entry)) (now (traits .entry)) (now (names .entry)))) ⌝ }
+    ensures { λ r. ⌜ passed (r .coded) (stateNumbers (r .state)) (atExit rows store strings objects traits names)
+        ≡ codedFed (beginCall (atEntry rows store strings objects traits names)) ⌝ }
 {
     state_code(feed::begun(rows, store, strings, objects, traits, names))
 }
@@ -269,7 +288,8 @@ pub extern "C" fn pb_begin(
     traits: &mut [usize],
     names: &mut [usize],
 ) -> Coded
-    ensures { λ r. ⌜ passed r (stateNumbers (now (state .exit))) (memory (now (rows .exit)) (now (store .exit)) (now (strings .exit)) (now (objects .exit)) (now (traits .exit)) (now (names .exit))) ≡ codedFed (beginCall (memory (now (rows .entry)) (now (store .entry)) (now (strings .entry)) (now (objects .entry)) (now (traits .entry)) (now (names .entry)))) ⌝ }
+    ensures { λ r. ⌜ passed r (stateNumbers (now (state .exit))) (atExit rows store strings objects traits names)
+        ≡ codedFed (beginCall (atEntry rows store strings objects traits names)) ⌝ }
 {
     let out = begun_coded(rows, store, strings, objects, traits, names);
     *state = out.state;
@@ -288,7 +308,8 @@ pub extern "C" fn pb_feed(
     names: &mut [usize],
     piece: &[u8],
 ) -> Coded
-    ensures { λ r. ⌜ passed r (stateNumbers (now (state .exit))) (memory (now (rows .exit)) (now (store .exit)) (now (strings .exit)) (now (objects .exit)) (now (traits .exit)) (now (names .exit))) ≡ codedFed (feedCall (stateNumbers (now (state .entry))) (memory (now (rows .entry)) (now (store .entry)) (now (strings .entry)) (now (objects .entry)) (now (traits .entry)) (now (names .entry))) (now (piece .entry))) ⌝ }
+    ensures { λ r. ⌜ passed r (stateNumbers (now (state .exit))) (atExit rows store strings objects traits names)
+        ≡ codedFed (feedCall (stateNumbers (now (state .entry))) (atEntry rows store strings objects traits names) (now (piece .entry))) ⌝ }
 {
     let out = fed_in_coded(
         state.head,
@@ -314,7 +335,8 @@ fn ended_coded(
     traits: &mut [usize],
     names: &mut [usize],
 ) -> StateCoded
-    ensures { λ r. ⌜ passed (r .coded) (stateNumbers (r .state)) (memory (now (rows .exit)) (now (store .exit)) (now (strings .exit)) (now (objects .exit)) (now (traits .exit)) (now (names .exit))) ≡ codedFed (endCall (stateNumbers s) (memory (now (rows .entry)) (now (store .entry)) (now (strings .entry)) (now (objects .entry)) (now (traits .entry)) (now (names .entry)))) ⌝ }
+    ensures { λ r. ⌜ passed (r .coded) (stateNumbers (r .state)) (atExit rows store strings objects traits names)
+        ≡ codedFed (endCall (stateNumbers s) (atEntry rows store strings objects traits names)) ⌝ }
 {
     state_code(feed::ended(s, rows, store, strings, objects, traits, names))
 }
@@ -330,7 +352,8 @@ pub extern "C" fn pb_end(
     traits: &mut [usize],
     names: &mut [usize],
 ) -> Coded
-    ensures { λ r. ⌜ passed r (stateNumbers (now (state .exit))) (memory (now (rows .exit)) (now (store .exit)) (now (strings .exit)) (now (objects .exit)) (now (traits .exit)) (now (names .exit))) ≡ codedFed (endCall (stateNumbers (now (state .entry))) (memory (now (rows .entry)) (now (store .entry)) (now (strings .entry)) (now (objects .entry)) (now (traits .entry)) (now (names .entry)))) ⌝ }
+    ensures { λ r. ⌜ passed r (stateNumbers (now (state .exit))) (atExit rows store strings objects traits names)
+        ≡ codedFed (endCall (stateNumbers (now (state .entry))) (atEntry rows store strings objects traits names)) ⌝ }
 {
     let out = ended_coded(*state, rows, store, strings, objects, traits, names);
     *state = out.state;
@@ -348,7 +371,8 @@ pub extern "C" fn pb_read(
     names: &mut [usize],
     message: &[u8],
 ) -> Coded
-    ensures { λ x. ⌜ left x (memory (now (rows .exit)) (now (store .exit)) (now (strings .exit)) (now (objects .exit)) (now (traits .exit)) (now (names .exit))) ≡ codedRead (readCall (memory (now (rows .entry)) (now (store .entry)) (now (strings .entry)) (now (objects .entry)) (now (traits .entry)) (now (names .entry))) (now (message .entry))) ⌝ }
+    ensures { λ x. ⌜ left x (atExit rows store strings objects traits names)
+        ≡ codedRead (readCall (atEntry rows store strings objects traits names) (now (message .entry))) ⌝ }
 {
     code_of(read(rows, store, strings, objects, traits, names, message))
 }

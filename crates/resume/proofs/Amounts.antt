@@ -16,8 +16,11 @@ use Rattle.format.specs.Step.{atMarker, atString, atText, xmlText, atRaw, byteA
 use Rattle.format.specs.Step.{keyed, members, naming, texting, filling, numberDone}
 use Rattle.format.specs.Numbers.{framesOf, workOf, bodyPurpose, work, noTrait}
 use Rattle.resume.specs.declared.Next.the-variants.{Wait}
-use Rattle.resume.specs.Held.{after, afterOf, settled, withRaw, withNumber, IsRaw, IsNumber}
+use Rattle.resume.specs.Steps.{after, afterOf, settled}
+use Rattle.format.specs.Numbers.{withRaw, withNumber}
+use Rattle.states.specs.Purposes.{IsRaw, IsNumber}
 use Rattle.resume.proofs.Settled.{waits}
+use Rattle.format.specs.Codes.{purposeByteArray, purposeFours, purposeEights, modeRaw}
 
 module _ (ts : List Frame) (c : Cursor) (m : Memory) where
   -- a key of so many bytes: an empty one ends the pairs
@@ -77,8 +80,8 @@ module _ (ts : List Frame) (c : Cursor) (m : Memory) where
 raws : (P : ℕ → Type 0) (p : ℕ) → IsRaw p → P 6 → P 7 → P 8 → P p
 raws P p h a b d =
     elim (decLt p 7) [
-      | yes l ↦ (let e : p ≡ 6 = omega arith in rw e a)
-      | no l ↦ elim (decLt p 8) [ yes g ↦ (let e : p ≡ 7 = omega arith in rw e b) | no g ↦ (let e : p ≡ 8 = omega arith in rw e d) ]
+      | yes l ↦ (let e : p ≡ purposeByteArray = omega arith in rw e a)
+      | no l ↦ elim (decLt p 8) [ yes g ↦ (let e : p ≡ purposeFours = omega arith in rw e b) | no g ↦ (let e : p ≡ purposeEights = omega arith in rw e d) ]
     ]
 
 pub no-bytes : (ts : List Frame) (c : Cursor) (m : Memory) (purpose row : ℕ) (s : Span) (n : ℕ) → IsRaw purpose → n ≡ 0
@@ -88,15 +91,15 @@ no-bytes ts c m purpose row s n h z =
     raws (λ p. withRaw (broken m) p row (λ r. filling ts r s n c m) ≡ ends ts (onRows (closed row)) c m) purpose h (rw z) (rw z) (rw z)
 
 pub more-bytes : (F : List ℕ) (depth : ℕ) (c : Cursor) (m : Memory) (w : Work) (purpose row : ℕ) (s : Span) (n : ℕ) → IsRaw purpose → (n ≡ 0 → ⊥)
-    → w ≡ work 6 purpose row (n - 1) 0 s noTrait 0 0
+    → w ≡ work modeRaw purpose row (n - 1) 0 s noTrait 0 0
     → settled (after (Wait w c depth) F m) ≡ afterOf F (withRaw (broken m) purpose row (λ r. filling (framesOf F depth) r s n c m))
 unfolding filling workOf bodyPurpose
 more-bytes F depth c m w purpose row s zero h z e = absurd (z refl)
 more-bytes F depth c m w purpose row s (suc n) h z e =
     let d : suc n - 1 ≡ n = omega arith in
-    let e′ : w ≡ work 6 purpose row n 0 s noTrait 0 0 = (rw d at e) in
+    let e′ : w ≡ work modeRaw purpose row n 0 s noTrait 0 0 = (rw d at e) in
     raws
-    (λ p. w ≡ work 6 p row n 0 s noTrait 0 0
+    (λ p. w ≡ work modeRaw p row n 0 s noTrait 0 0
     → settled (after (Wait w c depth) F m) ≡ afterOf F (withRaw (broken m) p row (λ r. filling (framesOf F depth) r s (suc n) c m)))
     purpose
     h

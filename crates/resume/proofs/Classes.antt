@@ -9,7 +9,7 @@ use Rattle.rows.specs.Memory.{Memory}
 use Rattle.format.specs.declared.Frame.{Frame}
 use Rattle.format.specs.Decide.{onRows, objectClass, traitOf}
 use Rattle.format.specs.Step.{on, forClass, naming, had}
-use Rattle.resume.specs.Held.{After, afterOf}
+use Rattle.resume.specs.Steps.{After, afterOf}
 
 pub class-made : (F : List ℕ) (ts : List Frame) (row n y : ℕ) (p : Span) (c : Cursor) (m : Memory) (t : Trait) (x : After) → t ≡ traitOf p n y c
     → x ≡ afterOf F (on (onRows (objectClass row t) m c) m (λ u. naming ts row t n)) → x ≡ afterOf F (had ts (forClass row n y) p c m)

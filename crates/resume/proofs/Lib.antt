@@ -1,9 +1,7 @@
 pub mod Amounts
 pub mod Classes
 pub mod Decided
-pub mod Frames
 pub mod Popped
-pub mod Purposes
 pub mod Refusals
 pub mod Settled
 pub mod Tasks

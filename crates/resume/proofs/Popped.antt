@@ -17,7 +17,7 @@ use Rattle.resume.specs.declared.Next.{Next}
 use Rattle.resume.specs.declared.Next.the-variants.{Finished, Refused}
 use Rattle.resume.specs.declared.Entry.{Entry}
 use Rattle.resume.specs.declared.Entry.the-variants.{On, No}
-use Rattle.resume.specs.Held.{after, afterOf, settled, ended, onEntry}
+use Rattle.resume.specs.Steps.{after, afterOf, settled, ended, onEntry}
 use Rattle.resume.proofs.Settled.{refuses, finishes}
 use Rattle.resume.proofs.Turns.{goes-on, went, went-frames}
 

@@ -6,7 +6,7 @@ use lib.ListN.{length}
 use Rattle.rows.specs.Memory.{Memory, zeroed}
 use Rattle.decide.specs.declared.Refusal.{Refusal}
 use Rattle.resume.specs.declared.Next.the-variants.{Refused}
-use Rattle.resume.specs.Held.{after, afterOf, settled}
+use Rattle.resume.specs.Steps.{after, afterOf, settled}
 use Rattle.resume.proofs.Decided.{refusedWith}
 
 -- loans of the same lengths

@@ -12,19 +12,22 @@ use Rattle.rows.specs.Memory.{Memory, memory, zeroed, messageLimit}
 use Rattle.format.specs.declared.Frame.{Frame}
 use Rattle.format.specs.declared.Work.{Work}
 use Rattle.format.specs.Step.{Pairing, Mode, State, wait, atMarker, atString, forKey, nextKey}
-use Rattle.format.specs.Numbers.{framesOf, numbersOf, workOf}
+use Rattle.format.specs.Numbers.{framesOf, frameNumbers, workOf}
 use Rattle.decide.specs.declared.Refusal.{Refusal}
 use Rattle.resume.specs.declared.Next.the-variants.{Wait, Finished, Refused}
-use Rattle.resume.specs.Held.{After, after, afterOf, settled, ended, refusalOf}
+use Rattle.resume.specs.Steps.{After, after, afterOf, settled, ended, refusalOf}
 use Rattle.resume.proofs.Decided.{refusedWith}
-use Rattle.resume.proofs.Frames.{length-frames, laid-frames, laid-next}
+use Rattle.states.proofs.Frames.{length-frames, laid-frames, laid-next}
+use Rattle.format.specs.Numbers.{frameWidth}
+use Rattle.format.specs.Refusals as refusals
+use Rattle.rows.specs.Memory.{messageMost}
 
 module _ (F : List ℕ) (depth : ℕ) (c : Cursor) (m : Memory) (w : Work) (x : Mode) (e : w ≡ workOf x) where
   pub waits : settled (after (Wait w c depth) F m) ≡ afterOf F (wait x (framesOf F depth) c m)
   unfolding settled afterOf
   waits = rw (e, laid-frames F depth, length-frames F depth)
 
-  pub waits-next : (F′ : List ℕ) (f : Frame) → F′ ≡ sets F (depth * 6) (numbersOf f)
+  pub waits-next : (F′ : List ℕ) (f : Frame) → F′ ≡ sets F (depth * frameWidth) (frameNumbers f)
       → settled (after (Wait w c (depth + 1)) F′ m) ≡ afterOf F (wait x (f ∷ framesOf F depth) c m)
   unfolding settled afterOf
   waits-next F′ f p = rw (e, p, laid-next F depth f, length-frames F depth, add-one)
@@ -60,14 +63,14 @@ finishes F c m s e = rw e
 
 -- the next key of pairs, with too many before it or not
 module _ (F : List ℕ) (depth done : ℕ) (p : Pairing) (c : Cursor) (m : Memory) where
-  pub no-key-next : (r : Refusal) → 262144 ≤ done → r ≡ refusalOf 12 0 0 → settled (after (Refused r) F m) ≡ afterOf F (nextKey done p (framesOf F depth) c m)
+  pub no-key-next : (r : Refusal) → messageMost ≤ done → r ≡ refusalOf refusals.lost 0 0 → settled (after (Refused r) F m) ≡ afterOf F (nextKey done p (framesOf F depth) c m)
   unfolding messageLimit
-  no-key-next r h e = refuses F m m r (refusalOf 12 0 0) _ refl e (rw (le-leb 262144 done h))
+  no-key-next r h e = refuses F m m r (refusalOf refusals.lost 0 0) _ refl e (rw (le-leb messageMost done h))
 
-  pub key-next : (w : Work) → done < 262144 → w ≡ workOf (atString (forKey p))
+  pub key-next : (w : Work) → done < messageMost → w ≡ workOf (atString (forKey p))
       → settled (after (Wait w c depth) F m) ≡ afterOf F (nextKey done p (framesOf F depth) c m)
   unfolding messageLimit
-  key-next w h e = waits F depth c m w (atString (forKey p)) e ∙ ap (afterOf F) (rw (lt-leb 262144 done h))
+  key-next w h e = waits F depth c m w (atString (forKey p)) e ∙ ap (afterOf F) (rw (lt-leb messageMost done h))
 
 -- a value is next, its key and the frame around it being these
 pub opens : (F : List ℕ) (r : After) (k k′ : Key) (f f′ : Frame) (ts : List Frame) (c : Cursor) (m : Memory) (s : State)

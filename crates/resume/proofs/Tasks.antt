@@ -18,9 +18,11 @@ use Rattle.format.specs.Decide.{Out, stop, give, lost, lift, onRows, looking, c
 use Rattle.format.specs.Step.{taskOf, frame, frameOf, Task, membersOf, strange, assoc, dynamics, State, wait, on, go, entry}
 use Rattle.format.specs.Step.{atMarker, nextKey}
 use Rattle.decide.specs.declared.Refusal.{Refusal}
-use Rattle.decide.specs.Held.{leaving}
-use Rattle.resume.specs.Held.{Listed, refusalOf}
+use Rattle.decide.specs.Outcomes.{leaving}
+use Rattle.resume.specs.Steps.{Listed, refusalOf}
 use Rattle.resume.proofs.Decided.{refusedWith}
+use Rattle.format.specs.Refusals as refusals
+use Rattle.rows.specs.Memory.{messageMost}
 
 -- ---- going on, k being what comes when the value is finished
 
@@ -91,7 +93,7 @@ no-name i N c e = rw (le-leb (c .names) i (let h : c .names < i = leb-false i (c
     either false = refl
 
 pub astray-members : (k : Cursor → Memory → State) (ts : List Frame) (c : Cursor) (m : Memory) (row left done first y : ℕ) → (left ≡ 0 → ⊥)
-    → leb (first + done) (c .names) ≡ false → go k ts (membersOf row left done first y) c m ≡ refusedWith (refusalOf 12 0 0) m
+    → leb (first + done) (c .names) ≡ false → go k ts (membersOf row left done first y) c m ≡ refusedWith (refusalOf refusals.lost 0 0) m
 astray-members k ts c m row left done first y z e =
     more-members k ts c m row left done first y z
     ∙ ap (λ o. on (lift (λ u. m) o) m (λ key c m. wait (atMarker key) (frame 5 row (left - 1) done first y ∷ ts) c m)) (no-name (first + done) (m .names) c e)
@@ -132,22 +134,22 @@ unfolding taskOf
 strange-task f a b c d e g h =
     rw (ne-eqb (f .task) 1 a, ne-eqb (f .task) 2 b, ne-eqb (f .task) 3 c, ne-eqb (f .task) 4 d, ne-eqb (f .task) 5 e, ne-eqb (f .task) 6 g, ne-eqb (f .task) 7 h)
 
-pub entry-strange : (t : Task) (r : Refusal) (c : Cursor) (m : Memory) (k : Task → Cursor → Memory → State) → r ≡ refusalOf 12 0 0 → t ≡ strange
+pub entry-strange : (t : Task) (r : Refusal) (c : Cursor) (m : Memory) (k : Task → Cursor → Memory → State) → r ≡ refusalOf refusals.lost 0 0 → t ≡ strange
     → refusedWith r m ≡ entry t c m k
 unfolding entry
 entry-strange t r c m k e p = rw (e, p)
 
 pub go-strange : (t : Task) (ts : List Frame) (c : Cursor) (m : Memory) (k : Cursor → Memory → State) → t ≡ strange
-    → go k ts t c m ≡ refusedWith (refusalOf 12 0 0) m
+    → go k ts t c m ≡ refusedWith (refusalOf refusals.lost 0 0) m
 unfolding go
 go-strange t ts c m k p = rw p
 
 -- an entry that was counted was not one too many
 pub counted-below : (row col done : ℕ) (R R′ : List ℕ) (c c′ : Cursor) (o : Out Unit Unit)
-    → with1 o R′ ≡ leaving R (counted row col done R c) → o ≡ give tt tt c′ → done < 262144
+    → with1 o R′ ≡ leaving R (counted row col done R c) → o ≡ give tt tt c′ → done < messageMost
 unfolding counted messageLimit
-counted-below row col done R R′ c c′ o e p = below (leb 262144 done) refl
+counted-below row col done R R′ c c′ o e p = below (leb messageMost done) refl
   where
-    below : (b : Bool) → leb 262144 done ≡ b → done < 262144
-    below false q = leb-false 262144 done q
-    below true q = absurd (let r : with1 o R′ ≡ with1 (stop 12 0 0) R = (rw q at e) in let z : _≡_ {A = ℕ} 0 1 = cc in omega arith)
+    below : (b : Bool) → leb messageMost done ≡ b → done < messageMost
+    below false q = leb-false messageMost done q
+    below true q = absurd (let r : with1 o R′ ≡ with1 (stop refusals.lost 0 0) R = (rw q at e) in let z : _≡_ {A = ℕ} 0 1 = cc in omega arith)

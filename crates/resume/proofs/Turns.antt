@@ -18,7 +18,7 @@ use Rattle.format.specs.Numbers.{framesOf}
 use Rattle.resume.proofs.Next as next
 use Rattle.resume.specs.declared.Next.{Next}
 use Rattle.resume.specs.declared.Next.the-variants.{Wait, Finished, Refused}
-use Rattle.resume.specs.Held.{After, after, afterOf, settled, ended}
+use Rattle.resume.specs.Steps.{After, after, afterOf, settled, ended}
 
 -- a state, and what comes after a finished value
 unfoldable then : State → (Cursor → Memory → State) → State

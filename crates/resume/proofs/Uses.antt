@@ -15,15 +15,19 @@ use Rattle.format.specs.Decide.{Out, give, looking, onRows, onStrings, oldText,
 use Rattle.format.specs.Step.{State, wait, on, broken, Use, tableText, atText, had, textDone, stringSized, reservedFor}
 use Rattle.format.specs.Numbers.{noWork, useWork, workOf}
 use Rattle.decide.specs.declared.Refusal.{Refusal}
-use Rattle.decide.specs.Held.{leaving, stopped}
-use Rattle.resume.specs.Held.{After, afterOf, withUse, IsUse, reservedBy}
+use Rattle.decide.specs.Outcomes.{leaving, stopped}
+use Rattle.resume.specs.Steps.{After, afterOf, reservedBy}
+use Rattle.format.specs.Numbers.{withUse}
+use Rattle.states.specs.Purposes.{IsUse}
 use Rattle.resume.proofs.Decided.{refusedWith, wrote, stopt}
-use Rattle.resume.proofs.Purposes.{useOf, uses, between, purposed}
+use Rattle.states.proofs.Purposes.{useOf, uses, between, purposed}
+use Rattle.format.specs.Codes.{modeText}
+use Rattle.format.specs.Codes.{purposeString}
 
 use-reserved : (w : Work) → IsUse w → (s : Span) (m : Memory) (c : Cursor) → reservedFor (useOf w) s m c ≡ onRows (reservedBy w s) m c
 unfolding reservedFor
 use-reserved w h s m c =
-    between (λ p. reservedFor (useOf (purposed w p)) s m c ≡ onRows (reservedBy (purposed w p) s) m c) 11 7
+    between (λ p. reservedFor (useOf (purposed w p)) s m c ≡ onRows (reservedBy (purposed w p) s) m c) purposeString 7
     (refl, (refl, (refl, (refl, (refl, (refl, (refl, tt))))))) (w .purpose) (omega arith) (omega arith)
 
 new-sized : (ts : List Frame) (u : Use) (n : ℕ) (c : Cursor) (m : Memory) → (n ≡ 0 → ⊥)
@@ -37,9 +41,9 @@ new-sized ts u (suc n) c m h =
 
 module _ (w : Work) (h : IsUse w) where
   -- the work of its text
-  pub use-work-of : (s : Span) (left part : ℕ) → withUse noWork w (λ u. useWork 5 u left part s) ≡ workOf (atText (tableText (useOf w)) s left part)
+  pub use-work-of : (s : Span) (left part : ℕ) → withUse noWork w (λ u. useWork modeText u left part s) ≡ workOf (atText (tableText (useOf w)) s left part)
   unfolding workOf
-  use-work-of s left part = uses noWork w (λ u. useWork 5 u left part s) h
+  use-work-of s left part = uses noWork w (λ u. useWork modeText u left part s) h
 
   module _ (F : List ℕ) (ts : List Frame) (x : After) (c : Cursor) (m : Memory) where
     pub use-had : (p : Span) → x ≡ afterOf F (withUse (broken m) w (λ u. had ts u p c m)) → x ≡ afterOf F (had ts (useOf w) p c m)

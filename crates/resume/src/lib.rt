@@ -6,69 +6,37 @@ use decide::Keyed;
 use decide::Refusal;
 use decide::Text;
 use decide::Whether;
+use format::FRAME_WIDTH;
 use format::Frame;
+use format::Frames;
 use format::Work;
+use format::modes;
+use format::purposes;
+use format::refusals;
+use format::tasks;
 use rows::Cursor;
 use rows::Key;
+use rows::MESSAGE_LIMIT;
 use rows::Span;
 use rows::Trait;
+use rows::columns;
+ghost use Rattle.resume.specs.Steps.{Steps};
+ghost use Rattle.rows.specs.Memory.{kept};
 ghost use mathlib.Core.Path.{_≡_};
 ghost use mathlib.Core.List.{List, _∷_};
-ghost use Prim.Native.Nat.{ℕ, _+_, _*_, _<_};
+ghost use Prim.Native.Nat.{ℕ, suc, _+_, _*_, _<_};
 ghost use lib.Seq.{sets};
 ghost use Rattle.rows.specs.Memory.{Memory, memory, noSpan};
 ghost use Rattle.resume.specs.declared.Entry.the-variants as entry;
 ghost use Rattle.format.specs.Decide as d;
 ghost use Rattle.format.specs.Step as s;
-ghost use Rattle.format.specs.Numbers.{frameAt, framesOf, frameWidth, numbersOf, workOf, work, noTrait, ofDynamic};
-ghost use Rattle.resume.specs.Held.{after, afterOf, settled, ended, onEntry, withUse, withText};
-ghost use Rattle.resume.specs.Held.{IsText, Listed};
-
-const MESSAGE_LIMIT: usize = 262144;
-
-const FRAME_WIDTH: usize = 6;
-
-const COL_COUNT: usize = 9;
-
-const COL_COUNT2: usize = 10;
-
-const EXTERNALIZABLE: usize = 6;
-
-// ---- modes, purposes and tasks, by their numbers
-
-const AT_MARKER: usize = 1;
-
-const AT_WORD: usize = 2;
-
-const FOR_XML: usize = 3;
-
-const FOR_STRING: usize = 11;
-
-const FOR_KEY: usize = 12;
-
-const FOR_DYNAMIC_KEY: usize = 13;
-
-const FOR_CLASS: usize = 14;
-
-const FOR_EXTERNAL: usize = 15;
-
-const FOR_NAME: usize = 16;
-
-const FOR_VECTOR: usize = 17;
-
-const PAIRS: usize = 1;
-
-const DYNAMICS: usize = 2;
-
-const DENSE: usize = 3;
-
-const VECTOR: usize = 4;
-
-const MEMBERS: usize = 5;
-
-const KEYS: usize = 6;
-
-const VALUES: usize = 7;
+ghost use Rattle.format.specs.Numbers.{frameAt, framesOf, frameWidth, frameNumbers, workOf, work, noTrait, ofDynamic};
+ghost use Rattle.resume.specs.Steps.{after, afterOf, settled, ended, onEntry};
+ghost use Rattle.format.specs.Numbers.{withUse, withText};
+ghost use Rattle.resume.specs.Steps.{Listed};
+ghost use Rattle.states.specs.Purposes.{IsText};
+ghost use Rattle.rows.specs.Memory.{openMost};
+ghost use Rattle.format.specs.Codes.{modeWord};
 
 // ---- answers
 
@@ -98,8 +66,8 @@ fn no_entry(a: Entry) -> Refusal
 
 // ---- frames
 
-fn frame_at(frames: &[usize; 384], i: usize) -> Frame
-    requires { ⌜ i < 64 ⌝ }
+fn frame_at(frames: &Frames, i: usize) -> Frame
+    requires { ⌜ i < openMost ⌝ }
     ensures { λ x. ⌜ x ≡ frameAt (now (frames .entry)) i ⌝ }
 {
     let at = i * FRAME_WIDTH;
@@ -113,9 +81,9 @@ fn frame_at(frames: &[usize; 384], i: usize) -> Frame
     }
 }
 
-fn put_frame(frames: &mut [usize; 384], i: usize, f: Frame)
-    requires { ⌜ i < 64 ⌝ }
-    ensures { λ x. ⌜ now (frames .exit) ≡ sets (now (frames .entry)) (i * frameWidth) (numbersOf f) ⌝ }
+fn put_frame(frames: &mut Frames, i: usize, f: Frame)
+    requires { ⌜ i < openMost ⌝ }
+    ensures { λ x. ⌜ now (frames .exit) ≡ sets (now (frames .entry)) (i * frameWidth) (frameNumbers f) ⌝ }
 {
     let at = i * FRAME_WIDTH;
     frames[at] = f.task;
@@ -201,9 +169,19 @@ pub fn row_work(
 
 // A string is next: whose it is, with what the use holds.
 pub fn string_work(purpose: usize, row: usize, kind: Trait, count: usize, done: usize) -> Work
-    ensures { λ x. ⌜ x ≡ work 2 purpose row 3 0 noSpan kind count done ⌝ }
+    ensures { λ x. ⌜ x ≡ work modeWord purpose row 3 0 noSpan kind count done ⌝ }
 {
-    whole_work(AT_WORD, purpose, row, 3, 0, no_span(), kind, count, done)
+    whole_work(
+        modes::WORD,
+        purpose,
+        row,
+        3,
+        0,
+        no_span(),
+        kind,
+        count,
+        done,
+    )
 }
 
 // The next value's marker, with its key.
@@ -211,7 +189,7 @@ fn marker_work(key: Key) -> Work
     ensures { λ x. ⌜ x ≡ workOf (s.atMarker key) ⌝ }
 {
     row_work(
-        AT_MARKER,
+        modes::MARKER,
         key.mark,
         0,
         0,
@@ -227,23 +205,29 @@ fn marker_work(key: Key) -> Work
 
 // The next key of an array, if there are not too many before it.
 pub fn next_key(c: Cursor, depth: usize, row: usize, count: usize, done: usize) -> Next
-    ensures { λ x. ⌜ ((F R B T O U N : List ℕ) → settled (after x F (memory R B T O U N)) ≡ afterOf F (s.nextKey done (s.assoc row count done) (framesOf F depth) c (memory R B T O U N))) ⌝ }
-{
-    if MESSAGE_LIMIT <= done {
-        return Next::Refused(decide::lost());
-    }
-    Next::Wait(string_work(FOR_KEY, row, no_trait(), count, done), c, depth)
-}
-
-// The next key of an object.
-fn next_dynamic_key(c: Cursor, depth: usize, row: usize, done: usize) -> Next
-    ensures { λ x. ⌜ ((F R B T O U N : List ℕ) → settled (after x F (memory R B T O U N)) ≡ afterOf F (s.nextKey done (s.dynamics row done) (framesOf F depth) c (memory R B T O U N))) ⌝ }
+    ensures { λ x. ⌜ ((F R B T O U N : List ℕ)
+        → Steps x (kept F) depth (kept R) (kept B) (kept T) (kept O) (kept U) (kept N) (λ ts m. s.nextKey done (s.assoc row count done) ts c m)) ⌝ }
 {
     if MESSAGE_LIMIT <= done {
         return Next::Refused(decide::lost());
     }
     Next::Wait(
-        string_work(FOR_DYNAMIC_KEY, row, no_trait(), 0, done),
+        string_work(purposes::KEY, row, no_trait(), count, done),
+        c,
+        depth,
+    )
+}
+
+// The next key of an object.
+fn next_dynamic_key(c: Cursor, depth: usize, row: usize, done: usize) -> Next
+    ensures { λ x. ⌜ ((F R B T O U N : List ℕ)
+        → Steps x (kept F) depth (kept R) (kept B) (kept T) (kept O) (kept U) (kept N) (λ ts m. s.nextKey done (s.dynamics row done) ts c m)) ⌝ }
+{
+    if MESSAGE_LIMIT <= done {
+        return Next::Refused(decide::lost());
+    }
+    Next::Wait(
+        string_work(purposes::DYNAMIC_KEY, row, no_trait(), 0, done),
         c,
         depth,
     )
@@ -251,7 +235,8 @@ fn next_dynamic_key(c: Cursor, depth: usize, row: usize, done: usize) -> Next
 
 // The row ends, and its value is finished.
 fn finish(rows: &mut [usize], c: Cursor, row: usize) -> Next
-    ensures { λ x. ⌜ ((F B T O U N : List ℕ) → settled (after x F (memory (now (rows .exit)) B T O U N)) ≡ afterOf F (s.on (d.onRows (d.closed row) (memory (now (rows .entry)) B T O U N) c) (memory (now (rows .entry)) B T O U N) (λ y. ended))) ⌝ }
+    ensures { λ x. ⌜ ((F B T O U N : List ℕ) → settled (after x F (memory (now (rows .exit)) B T O U N))
+        ≡ afterOf F (s.on (d.onRows (d.closed row) (memory (now (rows .entry)) B T O U N) c) (memory (now (rows .entry)) B T O U N) (λ y. ended))) ⌝ }
 {
     let a = decide::closed(rows, c, row);
     let Done::Fine(c1) = a else {
@@ -261,9 +246,10 @@ fn finish(rows: &mut [usize], c: Cursor, row: usize) -> Next
 }
 
 // A value is next, with the frame of the one around it.
-fn open_next(frames: &mut [usize; 384], c: Cursor, depth: usize, f: Frame, key: Key) -> Next
-    requires { ⌜ depth < 64 ⌝ }
-    ensures { λ x. ⌜ ((R B T O U N : List ℕ) → settled (after x (now (frames .exit)) (memory R B T O U N)) ≡ afterOf (now (frames .entry)) (s.wait (s.atMarker key) (f ∷ (framesOf (now (frames .entry)) depth)) c (memory R B T O U N))) ⌝ }
+fn open_next(frames: &mut Frames, c: Cursor, depth: usize, f: Frame, key: Key) -> Next
+    requires { ⌜ depth < openMost ⌝ }
+    ensures { λ x. ⌜ ((R B T O U N : List ℕ)
+        → Steps x frames depth (kept R) (kept B) (kept T) (kept O) (kept U) (kept N) (λ ts m. s.wait (s.atMarker key) (f ∷ ts) c m)) ⌝ }
 {
     put_frame(frames, depth, f);
     Next::Wait(marker_work(key), c, depth + 1)
@@ -285,7 +271,7 @@ pub fn frame(task: usize, row: usize, left: usize, done: usize) -> Frame
 // Items of an array or a vector, or the keys of a dictionary.
 fn go_entries(
     rows: &mut [usize],
-    frames: &mut [usize; 384],
+    frames: &mut Frames,
     c: Cursor,
     depth: usize,
     task: usize,
@@ -293,8 +279,9 @@ fn go_entries(
     left: usize,
     done: usize,
 ) -> Next
-    requires { ⌜ (depth < 64) × Listed task ⌝ }
-    ensures { λ x. ⌜ ((B T O U N : List ℕ) → settled (after x (now (frames .exit)) (memory (now (rows .exit)) B T O U N)) ≡ afterOf (now (frames .entry)) (s.go ended (framesOf (now (frames .entry)) depth) (s.taskOf (s.frame task row left done 0 0)) c (memory (now (rows .entry)) B T O U N))) ⌝ }
+    requires { ⌜ (depth < openMost) × Listed task ⌝ }
+    ensures { λ x. ⌜ ((B T O U N : List ℕ)
+        → Steps x frames depth rows (kept B) (kept T) (kept O) (kept U) (kept N) (λ ts m. s.go ended ts (s.taskOf (s.frame task row left done 0 0)) c m)) ⌝ }
 {
     if left == 0 {
         return finish(rows, c, row);
@@ -312,13 +299,14 @@ fn go_entries(
 fn go_members(
     rows: &mut [usize],
     names: &[usize],
-    frames: &mut [usize; 384],
+    frames: &mut Frames,
     c: Cursor,
     depth: usize,
     f: Frame,
 ) -> Next
-    requires { ⌜ depth < 64 ⌝ }
-    ensures { λ x. ⌜ ((B T O U : List ℕ) → settled (after x (now (frames .exit)) (memory (now (rows .exit)) B T O U (now (names .entry)))) ≡ afterOf (now (frames .entry)) (s.go ended (framesOf (now (frames .entry)) depth) (s.membersOf (f .row) (f .left) (f .done) (f .first) (f .dynamic)) c (memory (now (rows .entry)) B T O U (now (names .entry))))) ⌝ }
+    requires { ⌜ depth < openMost ⌝ }
+    ensures { λ x. ⌜ ((B T O U : List ℕ) → Steps x frames depth rows (kept B) (kept T) (kept O) (kept U) names
+        (λ ts m. s.go ended ts (s.membersOf (f .row) (f .left) (f .done) (f .first) (f .dynamic)) c m)) ⌝ }
 {
     if f.left == 0 {
         if f.dynamic == 0 {
@@ -334,7 +322,7 @@ fn go_members(
         return Next::Refused(decide::no_key(k));
     };
     let mut g = f;
-    g.task = MEMBERS;
+    g.task = tasks::MEMBERS;
     g.left = f.left - 1;
     open_next(frames, c1, depth, g, key)
 }
@@ -343,38 +331,38 @@ fn go_members(
 fn go(
     rows: &mut [usize],
     names: &[usize],
-    frames: &mut [usize; 384],
+    frames: &mut Frames,
     c: Cursor,
     depth: usize,
     f: Frame,
 ) -> Next
-    requires { ⌜ depth < 64 ⌝ }
-    ensures { λ x. ⌜ ((B T O U : List ℕ) → settled (after x (now (frames .exit)) (memory (now (rows .exit)) B T O U (now (names .entry)))) ≡ afterOf (now (frames .entry)) (s.go ended (framesOf (now (frames .entry)) depth) (s.taskOf f) c (memory (now (rows .entry)) B T O U (now (names .entry))))) ⌝ }
+    requires { ⌜ depth < openMost ⌝ }
+    ensures { λ x. ⌜ ((B T O U : List ℕ) → Steps x frames depth rows (kept B) (kept T) (kept O) (kept U) names (λ ts m. s.go ended ts (s.taskOf f) c m)) ⌝ }
 {
-    if f.task == PAIRS {
+    if f.task == tasks::PAIRS {
         return next_key(c, depth, f.row, f.left, f.done);
     }
-    if f.task == DYNAMICS {
+    if f.task == tasks::DYNAMICS {
         return next_dynamic_key(c, depth, f.row, f.done);
     }
-    if f.task == DENSE {
-        return go_entries(rows, frames, c, depth, DENSE, f.row, f.left, f.done);
+    if f.task == tasks::DENSE {
+        return go_entries(rows, frames, c, depth, tasks::DENSE, f.row, f.left, f.done);
     }
-    if f.task == VECTOR {
-        return go_entries(rows, frames, c, depth, VECTOR, f.row, f.left, f.done);
+    if f.task == tasks::VECTOR {
+        return go_entries(rows, frames, c, depth, tasks::VECTOR, f.row, f.left, f.done);
     }
-    if f.task == MEMBERS {
+    if f.task == tasks::MEMBERS {
         return go_members(rows, names, frames, c, depth, f);
     }
-    if f.task == KEYS {
-        return go_entries(rows, frames, c, depth, KEYS, f.row, f.left, f.done);
+    if f.task == tasks::KEYS {
+        return go_entries(rows, frames, c, depth, tasks::KEYS, f.row, f.left, f.done);
     }
-    if f.task == VALUES {
+    if f.task == tasks::VALUES {
         return open_next(
             frames,
             c,
             depth,
-            frame(VALUES, f.row, f.left, f.done),
+            frame(tasks::VALUES, f.row, f.left, f.done),
             rows::no_key(),
         );
     }
@@ -383,7 +371,9 @@ fn go(
 
 // An entry of a task is counted in a column, after `f.done` others.
 fn count_entry(rows: &mut [usize], c: Cursor, f: Frame, col: usize, task: usize) -> Entry
-    ensures { λ x. ⌜ ((B T O U N : List ℕ) (k : s.Task → Cursor → Memory → s.State) → onEntry x (memory (now (rows .exit)) B T O U N) k ≡ s.on (d.onRows (d.counted (f .row) col (f .done)) (memory (now (rows .entry)) B T O U N) c) (memory (now (rows .entry)) B T O U N) (λ y. k (s.taskOf (s.frame task (f .row) (f .left) (f .done + 1) (f .first) (f .dynamic))))) ⌝ }
+    ensures { λ x. ⌜ ((B T O U N : List ℕ) (k : s.Task → Cursor → Memory → s.State) → onEntry x (memory (now (rows .exit)) B T O U N) k
+        ≡ s.on (d.onRows (d.counted (f .row) col (f .done)) (memory (now (rows .entry)) B T O U N) c) (memory (now (rows .entry)) B T O U N)
+        (λ y. k (s.taskOf (s.frame task (f .row) (f .left) (f .done + 1) (f .first) (f .dynamic))))) ⌝ }
 {
     let a = decide::counted(rows, c, f.row, col, f.done);
     let Done::Fine(c1) = a else {
@@ -397,28 +387,29 @@ fn count_entry(rows: &mut [usize], c: Cursor, f: Frame, col: usize, task: usize)
 
 // The entry in work of a task is finished: what the task has left.
 fn entry_done(rows: &mut [usize], c: Cursor, f: Frame) -> Entry
-    ensures { λ x. ⌜ ((B T O U N : List ℕ) (k : s.Task → Cursor → Memory → s.State) → onEntry x (memory (now (rows .exit)) B T O U N) k ≡ s.entry (s.taskOf f) c (memory (now (rows .entry)) B T O U N) k) ⌝ }
+    ensures { λ x. ⌜ ((B T O U N : List ℕ) (k : s.Task → Cursor → Memory → s.State) → onEntry x (memory (now (rows .exit)) B T O U N) k
+        ≡ s.entry (s.taskOf f) c (memory (now (rows .entry)) B T O U N) k) ⌝ }
 {
-    if f.task == PAIRS {
-        return count_entry(rows, c, f, COL_COUNT, PAIRS);
+    if f.task == tasks::PAIRS {
+        return count_entry(rows, c, f, columns::COUNT, tasks::PAIRS);
     }
-    if f.task == DYNAMICS {
-        return count_entry(rows, c, f, COL_COUNT2, DYNAMICS);
+    if f.task == tasks::DYNAMICS {
+        return count_entry(rows, c, f, columns::COUNT2, tasks::DYNAMICS);
     }
-    if f.task == DENSE {
-        return count_entry(rows, c, f, COL_COUNT2, DENSE);
+    if f.task == tasks::DENSE {
+        return count_entry(rows, c, f, columns::COUNT2, tasks::DENSE);
     }
-    if f.task == VECTOR {
-        return count_entry(rows, c, f, COL_COUNT, VECTOR);
+    if f.task == tasks::VECTOR {
+        return count_entry(rows, c, f, columns::COUNT, tasks::VECTOR);
     }
-    if f.task == MEMBERS {
-        return count_entry(rows, c, f, COL_COUNT, MEMBERS);
+    if f.task == tasks::MEMBERS {
+        return count_entry(rows, c, f, columns::COUNT, tasks::MEMBERS);
     }
-    if f.task == KEYS {
-        return Entry::On(frame(VALUES, f.row, f.left, f.done), c);
+    if f.task == tasks::KEYS {
+        return Entry::On(frame(tasks::VALUES, f.row, f.left, f.done), c);
     }
-    if f.task == VALUES {
-        return count_entry(rows, c, f, COL_COUNT, KEYS);
+    if f.task == tasks::VALUES {
+        return count_entry(rows, c, f, columns::COUNT, tasks::KEYS);
     }
     Entry::No(decide::lost())
 }
@@ -427,12 +418,12 @@ fn entry_done(rows: &mut [usize], c: Cursor, f: Frame) -> Entry
 pub fn pop(
     rows: &mut [usize],
     names: &[usize],
-    frames: &mut [usize; 384],
+    frames: &mut Frames,
     c: Cursor,
     depth: usize,
 ) -> Next
-    requires { ⌜ depth < 65 ⌝ }
-    ensures { λ x. ⌜ ((B T O U : List ℕ) → settled (after x (now (frames .exit)) (memory (now (rows .exit)) B T O U (now (names .entry)))) ≡ afterOf (now (frames .entry)) (s.pop (framesOf (now (frames .entry)) depth) c (memory (now (rows .entry)) B T O U (now (names .entry))))) ⌝ }
+    requires { ⌜ depth < suc openMost ⌝ }
+    ensures { λ x. ⌜ ((B T O U : List ℕ) → Steps x frames depth rows (kept B) (kept T) (kept O) (kept U) names (λ ts m. s.pop ts c m)) ⌝ }
 {
     let mut n = depth;
     let mut cur = c;
@@ -456,13 +447,13 @@ pub fn pop(
 pub fn onward(
     rows: &mut [usize],
     names: &[usize],
-    frames: &mut [usize; 384],
+    frames: &mut Frames,
     c: Cursor,
     depth: usize,
     f: Frame,
 ) -> Next
-    requires { ⌜ depth < 64 ⌝ }
-    ensures { λ x. ⌜ ((B T O U : List ℕ) → settled (after x (now (frames .exit)) (memory (now (rows .exit)) B T O U (now (names .entry)))) ≡ afterOf (now (frames .entry)) (s.onward (framesOf (now (frames .entry)) depth) (s.taskOf f) c (memory (now (rows .entry)) B T O U (now (names .entry))))) ⌝ }
+    requires { ⌜ depth < openMost ⌝ }
+    ensures { λ x. ⌜ ((B T O U : List ℕ) → Steps x frames depth rows (kept B) (kept T) (kept O) (kept U) names (λ ts m. s.onward ts (s.taskOf f) c m)) ⌝ }
 {
     let a = go(rows, names, frames, c, depth, f);
     let Next::Finished(c1) = a else {
@@ -475,13 +466,13 @@ pub fn onward(
 pub fn close(
     rows: &mut [usize],
     names: &[usize],
-    frames: &mut [usize; 384],
+    frames: &mut Frames,
     c: Cursor,
     depth: usize,
     row: usize,
 ) -> Next
-    requires { ⌜ depth < 64 ⌝ }
-    ensures { λ x. ⌜ ((B T O U : List ℕ) → settled (after x (now (frames .exit)) (memory (now (rows .exit)) B T O U (now (names .entry)))) ≡ afterOf (now (frames .entry)) (s.ends (framesOf (now (frames .entry)) depth) (d.onRows (d.closed row)) c (memory (now (rows .entry)) B T O U (now (names .entry))))) ⌝ }
+    requires { ⌜ depth < openMost ⌝ }
+    ensures { λ x. ⌜ ((B T O U : List ℕ) → Steps x frames depth rows (kept B) (kept T) (kept O) (kept U) names (λ ts m. s.ends ts (d.onRows (d.closed row)) c m)) ⌝ }
 {
     let a = decide::closed(rows, c, row);
     let Done::Fine(c1) = a else {
@@ -496,7 +487,7 @@ pub fn close(
 fn keyed(
     rows: &mut [usize],
     names: &[usize],
-    frames: &mut [usize; 384],
+    frames: &mut Frames,
     c: Cursor,
     depth: usize,
     row: usize,
@@ -504,17 +495,25 @@ fn keyed(
     done: usize,
     p: Span,
 ) -> Next
-    requires { ⌜ depth < 64 ⌝ }
-    ensures { λ x. ⌜ ((B T O U : List ℕ) → settled (after x (now (frames .exit)) (memory (now (rows .exit)) B T O U (now (names .entry)))) ≡ afterOf (now (frames .entry)) (s.keyed (framesOf (now (frames .entry)) depth) (s.assoc row count done) p (p .size) c (memory (now (rows .entry)) B T O U (now (names .entry))))) ⌝ }
+    requires { ⌜ depth < openMost ⌝ }
+    ensures { λ x. ⌜ ((B T O U : List ℕ) → Steps x frames depth rows (kept B) (kept T) (kept O) (kept U) names
+        (λ ts m. s.keyed ts (s.assoc row count done) p (p .size) c m)) ⌝ }
 {
     if p.size == 0 {
-        return onward(rows, names, frames, c, depth, frame(DENSE, row, count, 0));
+        return onward(
+            rows,
+            names,
+            frames,
+            c,
+            depth,
+            frame(tasks::DENSE, row, count, 0),
+        );
     }
     open_next(
         frames,
         c,
         depth,
-        frame(PAIRS, row, count, done),
+        frame(tasks::PAIRS, row, count, done),
         rows::key_of(p),
     )
 }
@@ -523,15 +522,16 @@ fn keyed(
 fn keyed_dynamic(
     rows: &mut [usize],
     names: &[usize],
-    frames: &mut [usize; 384],
+    frames: &mut Frames,
     c: Cursor,
     depth: usize,
     row: usize,
     done: usize,
     p: Span,
 ) -> Next
-    requires { ⌜ depth < 64 ⌝ }
-    ensures { λ x. ⌜ ((B T O U : List ℕ) → settled (after x (now (frames .exit)) (memory (now (rows .exit)) B T O U (now (names .entry)))) ≡ afterOf (now (frames .entry)) (s.keyed (framesOf (now (frames .entry)) depth) (s.dynamics row done) p (p .size) c (memory (now (rows .entry)) B T O U (now (names .entry))))) ⌝ }
+    requires { ⌜ depth < openMost ⌝ }
+    ensures { λ x. ⌜ ((B T O U : List ℕ) → Steps x frames depth rows (kept B) (kept T) (kept O) (kept U) names
+        (λ ts m. s.keyed ts (s.dynamics row done) p (p .size) c m)) ⌝ }
 {
     if p.size == 0 {
         return close(rows, names, frames, c, depth, row);
@@ -540,7 +540,7 @@ fn keyed_dynamic(
         frames,
         c,
         depth,
-        frame(DYNAMICS, row, 0, done),
+        frame(tasks::DYNAMICS, row, 0, done),
         rows::key_of(p),
     )
 }
@@ -549,14 +549,14 @@ fn keyed_dynamic(
 pub fn members_of(
     rows: &mut [usize],
     names: &[usize],
-    frames: &mut [usize; 384],
+    frames: &mut Frames,
     c: Cursor,
     depth: usize,
     row: usize,
     t: Trait,
 ) -> Next
-    requires { ⌜ depth < 64 ⌝ }
-    ensures { λ x. ⌜ ((B T O U : List ℕ) → settled (after x (now (frames .exit)) (memory (now (rows .exit)) B T O U (now (names .entry)))) ≡ afterOf (now (frames .entry)) (s.members (framesOf (now (frames .entry)) depth) row t c (memory (now (rows .entry)) B T O U (now (names .entry))))) ⌝ }
+    requires { ⌜ depth < openMost ⌝ }
+    ensures { λ x. ⌜ ((B T O U : List ℕ) → Steps x frames depth rows (kept B) (kept T) (kept O) (kept U) names (λ ts m. s.members ts row t c m)) ⌝ }
 {
     onward(
         rows,
@@ -565,7 +565,7 @@ pub fn members_of(
         c,
         depth,
         Frame {
-            task: MEMBERS,
+            task: tasks::MEMBERS,
             row,
             left: t.count,
             done: 0,
@@ -580,18 +580,18 @@ fn naming(
     rows: &mut [usize],
     traits: &mut [usize],
     names: &[usize],
-    frames: &mut [usize; 384],
+    frames: &mut Frames,
     c: Cursor,
     depth: usize,
     row: usize,
     t: Trait,
     n: usize,
 ) -> Next
-    requires { ⌜ depth < 64 ⌝ }
-    ensures { λ x. ⌜ ((B T O : List ℕ) → settled (after x (now (frames .exit)) (memory (now (rows .exit)) B T O (now (traits .exit)) (now (names .entry)))) ≡ afterOf (now (frames .entry)) (s.naming (framesOf (now (frames .entry)) depth) row t n c (memory (now (rows .entry)) B T O (now (traits .entry)) (now (names .entry))))) ⌝ }
+    requires { ⌜ depth < openMost ⌝ }
+    ensures { λ x. ⌜ ((B T O : List ℕ) → Steps x frames depth rows (kept B) (kept T) (kept O) traits names (λ ts m. s.naming ts row t n c m)) ⌝ }
 {
     if n != 0 {
-        return Next::Wait(string_work(FOR_NAME, row, t, n - 1, 0), c, depth);
+        return Next::Wait(string_work(purposes::NAME, row, t, n - 1, 0), c, depth);
     }
     let a = decide::trait_end(traits, c, t);
     let Done::Fine(c1) = a else {
@@ -604,14 +604,14 @@ fn naming(
 fn string_there(
     rows: &mut [usize],
     names: &[usize],
-    frames: &mut [usize; 384],
+    frames: &mut Frames,
     c: Cursor,
     depth: usize,
     row: usize,
     p: Span,
 ) -> Next
-    requires { ⌜ depth < 64 ⌝ }
-    ensures { λ x. ⌜ ((B T O U : List ℕ) → settled (after x (now (frames .exit)) (memory (now (rows .exit)) B T O U (now (names .entry)))) ≡ afterOf (now (frames .entry)) (s.had (framesOf (now (frames .entry)) depth) (s.forString row) p c (memory (now (rows .entry)) B T O U (now (names .entry))))) ⌝ }
+    requires { ⌜ depth < openMost ⌝ }
+    ensures { λ x. ⌜ ((B T O U : List ℕ) → Steps x frames depth rows (kept B) (kept T) (kept O) (kept U) names (λ ts m. s.had ts (s.forString row) p c m)) ⌝ }
 {
     let a = decide::bodied(rows, c, row, p);
     let Done::Fine(c1) = a else {
@@ -625,7 +625,7 @@ fn class_there(
     rows: &mut [usize],
     traits: &mut [usize],
     names: &[usize],
-    frames: &mut [usize; 384],
+    frames: &mut Frames,
     c: Cursor,
     depth: usize,
     row: usize,
@@ -633,8 +633,8 @@ fn class_there(
     dynamic: usize,
     p: Span,
 ) -> Next
-    requires { ⌜ depth < 64 ⌝ }
-    ensures { λ x. ⌜ ((B T O : List ℕ) → settled (after x (now (frames .exit)) (memory (now (rows .exit)) B T O (now (traits .exit)) (now (names .entry)))) ≡ afterOf (now (frames .entry)) (s.had (framesOf (now (frames .entry)) depth) (s.forClass row n dynamic) p c (memory (now (rows .entry)) B T O (now (traits .entry)) (now (names .entry))))) ⌝ }
+    requires { ⌜ depth < openMost ⌝ }
+    ensures { λ x. ⌜ ((B T O : List ℕ) → Steps x frames depth rows (kept B) (kept T) (kept O) traits names (λ ts m. s.had ts (s.forClass row n dynamic) p c m)) ⌝ }
 {
     let t = decide::trait_of(c, p, n, dynamic);
     let a = decide::object_class(rows, c, row, t);
@@ -649,7 +649,7 @@ fn name_there(
     rows: &mut [usize],
     traits: &mut [usize],
     names: &mut [usize],
-    frames: &mut [usize; 384],
+    frames: &mut Frames,
     c: Cursor,
     depth: usize,
     row: usize,
@@ -657,8 +657,8 @@ fn name_there(
     n: usize,
     p: Span,
 ) -> Next
-    requires { ⌜ depth < 64 ⌝ }
-    ensures { λ x. ⌜ ((B T O : List ℕ) → settled (after x (now (frames .exit)) (memory (now (rows .exit)) B T O (now (traits .exit)) (now (names .exit)))) ≡ afterOf (now (frames .entry)) (s.had (framesOf (now (frames .entry)) depth) (s.forName row t n) p c (memory (now (rows .entry)) B T O (now (traits .entry)) (now (names .entry))))) ⌝ }
+    requires { ⌜ depth < openMost ⌝ }
+    ensures { λ x. ⌜ ((B T O : List ℕ) → Steps x frames depth rows (kept B) (kept T) (kept O) traits names (λ ts m. s.had ts (s.forName row t n) p c m)) ⌝ }
 {
     let a = decide::named(names, c, p);
     let Text::Have(q, c1) = a else {
@@ -672,15 +672,15 @@ fn vector_there(
     rows: &mut [usize],
     store: &[u8],
     names: &[usize],
-    frames: &mut [usize; 384],
+    frames: &mut Frames,
     c: Cursor,
     depth: usize,
     row: usize,
     n: usize,
     p: Span,
 ) -> Next
-    requires { ⌜ depth < 64 ⌝ }
-    ensures { λ x. ⌜ ((T O U : List ℕ) → settled (after x (now (frames .exit)) (memory (now (rows .exit)) (now (store .entry)) T O U (now (names .entry)))) ≡ afterOf (now (frames .entry)) (s.had (framesOf (now (frames .entry)) depth) (s.forVector row n) p c (memory (now (rows .entry)) (now (store .entry)) T O U (now (names .entry))))) ⌝ }
+    requires { ⌜ depth < openMost ⌝ }
+    ensures { λ x. ⌜ ((T O U : List ℕ) → Steps x frames depth rows store (kept T) (kept O) (kept U) names (λ ts m. s.had ts (s.forVector row n) p c m)) ⌝ }
 {
     let a = decide::starred(store, c, p);
     let Whether::Is(star, c1) = a else {
@@ -690,7 +690,14 @@ fn vector_there(
     let Done::Fine(c2) = b else {
         return Next::Refused(decide::not_done(b));
     };
-    onward(rows, names, frames, c2, depth, frame(VECTOR, row, n, 0))
+    onward(
+        rows,
+        names,
+        frames,
+        c2,
+        depth,
+        frame(tasks::VECTOR, row, n, 0),
+    )
 }
 
 // A string is there, for its use.
@@ -699,21 +706,21 @@ pub fn had(
     store: &[u8],
     traits: &mut [usize],
     names: &mut [usize],
-    frames: &mut [usize; 384],
+    frames: &mut Frames,
     c: Cursor,
     depth: usize,
     w: Work,
     p: Span,
 ) -> Next
-    requires { ⌜ depth < 64 ⌝ }
-    ensures { λ x. ⌜ ((T O : List ℕ) → settled (after x (now (frames .exit)) (memory (now (rows .exit)) (now (store .entry)) T O (now (traits .exit)) (now (names .exit)))) ≡ afterOf (now (frames .entry)) (withUse (s.broken (memory (now (rows .entry)) (now (store .entry)) T O (now (traits .entry)) (now (names .entry)))) w (λ u. s.had (framesOf (now (frames .entry)) depth) u p c (memory (now (rows .entry)) (now (store .entry)) T O (now (traits .entry)) (now (names .entry)))))) ⌝ }
+    requires { ⌜ depth < openMost ⌝ }
+    ensures { λ x. ⌜ ((T O : List ℕ) → Steps x frames depth rows store (kept T) (kept O) traits names (λ ts m. withUse (s.broken m) w (λ u. s.had ts u p c m))) ⌝ }
 {
     let purpose = w.purpose;
     match purpose {
-        FOR_STRING => string_there(rows, names, frames, c, depth, w.row, p),
-        FOR_KEY => keyed(rows, names, frames, c, depth, w.row, w.count, w.done, p),
-        FOR_DYNAMIC_KEY => keyed_dynamic(rows, names, frames, c, depth, w.row, w.done, p),
-        FOR_CLASS => class_there(
+        purposes::STRING => string_there(rows, names, frames, c, depth, w.row, p),
+        purposes::KEY => keyed(rows, names, frames, c, depth, w.row, w.count, w.done, p),
+        purposes::DYNAMIC_KEY => keyed_dynamic(rows, names, frames, c, depth, w.row, w.done, p),
+        purposes::CLASS => class_there(
             rows,
             traits,
             names,
@@ -725,8 +732,8 @@ pub fn had(
             w.kind.dynamic,
             p,
         ),
-        FOR_EXTERNAL => Next::Refused(decide::refuse(c, EXTERNALIZABLE, 0)),
-        FOR_NAME => name_there(
+        purposes::EXTERNAL => Next::Refused(decide::refuse(c, refusals::EXTERNALIZABLE, 0)),
+        purposes::NAME => name_there(
             rows,
             traits,
             names,
@@ -738,7 +745,17 @@ pub fn had(
             w.count,
             p,
         ),
-        FOR_VECTOR => vector_there(rows, store, names, frames, c, depth, w.row, w.count, p),
+        purposes::VECTOR_CLASS => vector_there(
+            rows,
+            store,
+            names,
+            frames,
+            c,
+            depth,
+            w.row,
+            w.count,
+            p,
+        ),
         _ => Next::Refused(decide::lost()),
     }
 }
@@ -750,16 +767,17 @@ pub fn text_done(
     strings: &mut [usize],
     traits: &mut [usize],
     names: &mut [usize],
-    frames: &mut [usize; 384],
+    frames: &mut Frames,
     c: Cursor,
     depth: usize,
     w: Work,
     valid: bool,
 ) -> Next
-    requires { ⌜ (depth < 64) × IsText w ⌝ }
-    ensures { λ x. ⌜ ((O : List ℕ) → settled (after x (now (frames .exit)) (memory (now (rows .exit)) (now (store .entry)) (now (strings .exit)) O (now (traits .exit)) (now (names .exit)))) ≡ afterOf (now (frames .entry)) (withText (s.broken (memory (now (rows .entry)) (now (store .entry)) (now (strings .entry)) O (now (traits .entry)) (now (names .entry)))) w (λ x. s.textDone (framesOf (now (frames .entry)) depth) x (w .span) valid c (memory (now (rows .entry)) (now (store .entry)) (now (strings .entry)) O (now (traits .entry)) (now (names .entry)))))) ⌝ }
+    requires { ⌜ (depth < openMost) × IsText w ⌝ }
+    ensures { λ x. ⌜ ((O : List ℕ) → Steps x frames depth rows store strings (kept O) traits names
+        (λ ts m. withText (s.broken m) w (λ x. s.textDone ts x (w .span) valid c m))) ⌝ }
 {
-    if w.purpose == FOR_XML {
+    if w.purpose == purposes::XML {
         let a = decide::judged(c, valid);
         let Done::Fine(c1) = a else {
             return Next::Refused(decide::not_done(a));

@@ -5,6 +5,8 @@ use Prim.Native.Nat.{ℕ, zero, suc, _+_, _*_, _/_, _%_}
 use lib.Dec.{leb, ltb, eqb}
 use lib.ListN.{length, getD, set, replicate}
 use lib.Seq.{sets}
+use denote.Ref.{RefT, now}
+use denote.Triple.Both.{Both}
 use Rattle.rows.specs.declared.Cursor.{Cursor}
 use Rattle.rows.specs.declared.Span.{Span}
 use Rattle.rows.specs.declared.Key.{Key}
@@ -13,13 +15,40 @@ use Rattle.rows.specs.declared.Row.{Row}
 
 -- ---- limits
 
+-- Two limits have two names: the number, and the limit, which proofs open only where they say so.
+
 -- bytes of a message
+abbrev pub messageMost : ℕ
+messageMost = 262144
+
 unfoldable pub messageLimit : ℕ
-messageLimit = 262144
+messageLimit = messageMost
 
 -- values open at once
+abbrev pub openMost : ℕ
+openMost = 64
+
 unfoldable pub openLimit : ℕ
-openLimit = 64
+openLimit = openMost
+
+-- entries of each loan
+abbrev pub rowsMost : ℕ
+rowsMost = 16384
+
+abbrev pub storeMost : ℕ
+storeMost = 65536
+
+abbrev pub stringsMost : ℕ
+stringsMost = 4096
+
+abbrev pub objectsMost : ℕ
+objectsMost = 4096
+
+abbrev pub traitsMost : ℕ
+traitsMost = 256
+
+abbrev pub namesMost : ℕ
+namesMost = 4096
 
 -- ---- numbers per entry
 
@@ -70,9 +99,29 @@ colCount2 = 10
 abbrev pub colEnd : ℕ
 colEnd = 11
 
--- ---- the loans
+-- ---- the loans, by number; the output counts as the seventh
 
--- 1 rows, 2 byte store, 3 strings, 4 objects, 5 traits, 6 trait field names
+abbrev pub loanRows : ℕ
+loanRows = 1
+
+abbrev pub loanStore : ℕ
+loanStore = 2
+
+abbrev pub loanStrings : ℕ
+loanStrings = 3
+
+abbrev pub loanObjects : ℕ
+loanObjects = 4
+
+abbrev pub loanTraits : ℕ
+loanTraits = 5
+
+abbrev pub loanNames : ℕ
+loanNames = 6
+
+abbrev pub loanOutput : ℕ
+loanOutput = 7
+
 pub record Memory : Type 0 where
   pub rows : List ℕ
   pub store : List ℕ
@@ -88,12 +137,12 @@ faulty most w n = ltb (most * w) n || not (eqb (n % w) 0)
 -- refusal 1: the lowest faulty loan, 0 where there is none
 unfoldable pub loanFault : ℕ → ℕ → ℕ → ℕ → ℕ → ℕ → ℕ
 loanFault rows store strings objects traits names =
-    cond (faulty 16384 rowWidth rows) 1
-    (cond (faulty 65536 1 store) 2
-    (cond (faulty 4096 spanWidth strings) 3
-    (cond (faulty 4096 1 objects) 4
-    (cond (faulty 256 traitWidth traits) 5
-    (cond (faulty 4096 spanWidth names) 6 0)))))
+    cond (faulty rowsMost rowWidth rows) loanRows
+    (cond (faulty storeMost 1 store) loanStore
+    (cond (faulty stringsMost spanWidth strings) loanStrings
+    (cond (faulty objectsMost 1 objects) loanObjects
+    (cond (faulty traitsMost traitWidth traits) loanTraits
+    (cond (faulty namesMost spanWidth names) loanNames 0)))))
 
 abbrev pub faultOf : Memory → ℕ
 faultOf m = loanFault (length (m .rows)) (length (m .store)) (length (m .strings)) (length (m .objects)) (length (m .traits)) (length (m .names))
@@ -116,6 +165,21 @@ fresh = cursor 0 0 0 0 0 0 0
 abbrev pub memory : List ℕ → List ℕ → List ℕ → List ℕ → List ℕ → List ℕ → Memory
 memory R B T O U N = record { rows = R; store = B; strings = T; objects = O; traits = U; names = N }
 
+-- a loan of a call: as it is lent and as it comes back
+abbrev pub Loan : Type 0
+Loan = Both (RefT (List ℕ)) (RefT (List ℕ))
+
+-- one that the call isn't lent
+abbrev pub kept : List ℕ → Loan
+kept l = let r : RefT (List ℕ) = record { ptr = (0, 0); name = 0; now = l } in record { entry = r; exit = r }
+
+-- the six loans at the call's entry, and at its exit
+abbrev pub atEntry : Loan → Loan → Loan → Loan → Loan → Loan → Memory
+atEntry R B T O U N = memory (now (R .entry)) (now (B .entry)) (now (T .entry)) (now (O .entry)) (now (U .entry)) (now (N .entry))
+
+abbrev pub atExit : Loan → Loan → Loan → Loan → Loan → Loan → Memory
+atExit R B T O U N = memory (now (R .exit)) (now (B .exit)) (now (T .exit)) (now (O .exit)) (now (U .exit)) (now (N .exit))
+
 -- every loan set to zero
 unfoldable pub zeroed : Memory → Memory
 zeroed m = memory (zeros (m .rows)) (zeros (m .store)) (zeros (m .strings)) (zeros (m .objects)) (zeros (m .traits)) (zeros (m .names))
@@ -129,13 +193,13 @@ abbrev pub put : List ℕ → ℕ → ℕ → ℕ → List ℕ
 put R row col v = set R (row * rowWidth + col) v
 
 -- a row's numbers, in the order of the columns
-abbrev pub numbersOf : Row → List ℕ
-numbersOf v =
+abbrev pub rowNumbers : Row → List ℕ
+rowNumbers v =
     v .kind ∷ v .key .mark ∷ v .key .begin ∷ v .key .size ∷ v .body .begin ∷ v .body .size ∷ v .class ∷ v .flag ∷ v .number ∷ v .count ∷ v .count2 ∷ v .end ∷ []
 
 -- a whole row, and one column, where the row is lent
 unfoldable pub putRow : List ℕ → ℕ → Row → List ℕ
-putRow R row v = cond (ltb row (length R / rowWidth)) (sets R (row * rowWidth) (numbersOf v)) R
+putRow R row v = cond (ltb row (length R / rowWidth)) (sets R (row * rowWidth) (rowNumbers v)) R
 
 unfoldable pub columnAt : List ℕ → ℕ → ℕ → ℕ
 columnAt R row col = cond (ltb row (length R / rowWidth)) (cond (ltb col rowWidth) (cell R row col) 0) 0

@@ -1,19 +1,54 @@
 // What a reading holds beside the six loans, and the parts of a row: plain numbers, by value.
 
+pub mod columns;
+pub mod kinds;
+pub mod loans;
+
 ghost use mathlib.Core.Path.{_≡_};
 ghost use mathlib.Core.Bool.{not, _&&_, _||_};
 ghost use Prim.Native.Nat.{_+_, _<_, _≤_, _/_, _%_};
 ghost use lib.Dec.{leb, ltb, eqb};
 ghost use lib.ListN.{length};
 ghost use lib.Seq.{sets, slice};
-ghost use Rattle.rows.specs.Memory.{rowWidth, loanFault, zeros, putRow, columnAt, keyAt, bodyAt, rowAt, memory, zeroed, noKey, keyOf};
+ghost use Rattle.rows.specs.Memory as m;
+ghost use Rattle.rows.specs.Memory.{atEntry, atExit, rowWidth, loanFault, zeros, putRow, columnAt, keyAt, bodyAt, rowAt, zeroed, noKey, keyOf};
 ghost use Rattle.rows.specs.Memory.{colKind, colClassMark, colFlag, colNumber, colCount, colCount2, colEnd};
 
-const ROW_WIDTH: usize = 12;
+// ---- limits: bytes of a message, values open at once, entries of each loan
 
-const SPAN_WIDTH: usize = 2;
+pub const MESSAGE_LIMIT: usize = 262144;
 
-const TRAIT_WIDTH: usize = 5;
+pub const OPEN_LIMIT: usize = 64;
+
+pub const ROWS_MOST: usize = 16384;
+
+pub const STORE_MOST: usize = 65536;
+
+pub const STRINGS_MOST: usize = 4096;
+
+pub const OBJECTS_MOST: usize = 4096;
+
+pub const TRAITS_MOST: usize = 256;
+
+pub const NAMES_MOST: usize = 4096;
+
+// ---- numbers per entry, and their places in it
+
+pub const ROW_WIDTH: usize = 12;
+
+pub const SPAN_WIDTH: usize = 2;
+
+pub const SPAN_SIZE: usize = 1;
+
+pub const TRAIT_WIDTH: usize = 5;
+
+pub const TRAIT_SIZE: usize = 1;
+
+pub const TRAIT_DYNAMIC: usize = 2;
+
+pub const TRAIT_FIRST: usize = 3;
+
+pub const TRAIT_COUNT: usize = 4;
 
 // The bytes taken, and how many entries of each loan are used.
 #[repr(C)]
@@ -64,6 +99,21 @@ pub struct Row {
     pub end: usize,
 }
 
+// Nothing taken and nothing used.
+pub fn fresh() -> Cursor
+    ensures { λ r. ⌜ r ≡ m.fresh ⌝ }
+{
+    Cursor {
+        at: 0,
+        rows: 0,
+        store: 0,
+        strings: 0,
+        objects: 0,
+        traits: 0,
+        names: 0,
+    }
+}
+
 // ---- loans
 
 // A loan of `n` numbers, `width` to an entry, is longer than `most` numbers or not whole entries.
@@ -88,23 +138,23 @@ pub fn loan_fault(
 ) -> usize
     ensures { λ r. ⌜ r ≡ loanFault rows store strings objects traits names ⌝ }
 {
-    if faulty(rows, ROW_WIDTH, 16384 * ROW_WIDTH) {
-        return 1;
+    if faulty(rows, ROW_WIDTH, ROWS_MOST * ROW_WIDTH) {
+        return loans::ROWS;
     }
-    if faulty(store, 1, 65536) {
-        return 2;
+    if faulty(store, 1, STORE_MOST) {
+        return loans::STORE;
     }
-    if faulty(strings, SPAN_WIDTH, 4096 * SPAN_WIDTH) {
-        return 3;
+    if faulty(strings, SPAN_WIDTH, STRINGS_MOST * SPAN_WIDTH) {
+        return loans::STRINGS;
     }
-    if faulty(objects, 1, 4096) {
-        return 4;
+    if faulty(objects, 1, OBJECTS_MOST) {
+        return loans::OBJECTS;
     }
-    if faulty(traits, TRAIT_WIDTH, 256 * TRAIT_WIDTH) {
-        return 5;
+    if faulty(traits, TRAIT_WIDTH, TRAITS_MOST * TRAIT_WIDTH) {
+        return loans::TRAITS;
     }
-    if faulty(names, SPAN_WIDTH, 4096 * SPAN_WIDTH) {
-        return 6;
+    if faulty(names, SPAN_WIDTH, NAMES_MOST * SPAN_WIDTH) {
+        return loans::NAMES;
     }
     0
 }
@@ -138,7 +188,7 @@ pub fn clear(
     traits: &mut [usize],
     names: &mut [usize],
 )
-    ensures { λ r. ⌜ memory (now (rows .exit)) (now (store .exit)) (now (strings .exit)) (now (objects .exit)) (now (traits .exit)) (now (names .exit)) ≡ zeroed (memory (now (rows .entry)) (now (store .entry)) (now (strings .entry)) (now (objects .entry)) (now (traits .entry)) (now (names .entry))) ⌝ }
+    ensures { λ r. ⌜ atExit rows store strings objects traits names ≡ zeroed (atEntry rows store strings objects traits names) ⌝ }
 {
     zero(rows);
     zero_bytes(store);
@@ -179,17 +229,17 @@ pub fn put_row(rows: &mut [usize], row: usize, v: Row)
     if row < rows.len() / ROW_WIDTH {
         let i = row * ROW_WIDTH;
         rows[i] = v.kind;
-        rows[i + 1] = v.key.mark;
-        rows[i + 2] = v.key.begin;
-        rows[i + 3] = v.key.size;
-        rows[i + 4] = v.body.begin;
-        rows[i + 5] = v.body.size;
-        rows[i + 6] = v.class;
-        rows[i + 7] = v.flag;
-        rows[i + 8] = v.number;
-        rows[i + 9] = v.count;
-        rows[i + 10] = v.count2;
-        rows[i + 11] = v.end;
+        rows[i + columns::KEY_MARK] = v.key.mark;
+        rows[i + columns::KEY_BEGIN] = v.key.begin;
+        rows[i + columns::KEY_SIZE] = v.key.size;
+        rows[i + columns::BODY_BEGIN] = v.body.begin;
+        rows[i + columns::BODY_SIZE] = v.body.size;
+        rows[i + columns::CLASS_MARK] = v.class;
+        rows[i + columns::FLAG] = v.flag;
+        rows[i + columns::NUMBER] = v.number;
+        rows[i + columns::COUNT] = v.count;
+        rows[i + columns::COUNT2] = v.count2;
+        rows[i + columns::END] = v.end;
     }
 }
 
@@ -233,43 +283,43 @@ pub fn key_of(s: Span) -> Key
 pub fn kind_at(rows: &[usize], row: usize) -> usize
     ensures { λ r. ⌜ r ≡ columnAt (now (rows .entry)) row colKind ⌝ }
 {
-    column(rows, row, 0)
+    column(rows, row, columns::KIND)
 }
 
 pub fn class_at(rows: &[usize], row: usize) -> usize
     ensures { λ r. ⌜ r ≡ columnAt (now (rows .entry)) row colClassMark ⌝ }
 {
-    column(rows, row, 6)
+    column(rows, row, columns::CLASS_MARK)
 }
 
 pub fn flag_at(rows: &[usize], row: usize) -> usize
     ensures { λ r. ⌜ r ≡ columnAt (now (rows .entry)) row colFlag ⌝ }
 {
-    column(rows, row, 7)
+    column(rows, row, columns::FLAG)
 }
 
 pub fn number_at(rows: &[usize], row: usize) -> usize
     ensures { λ r. ⌜ r ≡ columnAt (now (rows .entry)) row colNumber ⌝ }
 {
-    column(rows, row, 8)
+    column(rows, row, columns::NUMBER)
 }
 
 pub fn count_at(rows: &[usize], row: usize) -> usize
     ensures { λ r. ⌜ r ≡ columnAt (now (rows .entry)) row colCount ⌝ }
 {
-    column(rows, row, 9)
+    column(rows, row, columns::COUNT)
 }
 
 pub fn count2_at(rows: &[usize], row: usize) -> usize
     ensures { λ r. ⌜ r ≡ columnAt (now (rows .entry)) row colCount2 ⌝ }
 {
-    column(rows, row, 10)
+    column(rows, row, columns::COUNT2)
 }
 
 pub fn end_at(rows: &[usize], row: usize) -> usize
     ensures { λ r. ⌜ r ≡ columnAt (now (rows .entry)) row colEnd ⌝ }
 {
-    column(rows, row, 11)
+    column(rows, row, columns::END)
 }
 
 // The key of a row.
@@ -277,9 +327,9 @@ pub fn key_at(rows: &[usize], row: usize) -> Key
     ensures { λ r. ⌜ r ≡ keyAt (now (rows .entry)) row ⌝ }
 {
     Key {
-        mark: column(rows, row, 1),
-        begin: column(rows, row, 2),
-        size: column(rows, row, 3),
+        mark: column(rows, row, columns::KEY_MARK),
+        begin: column(rows, row, columns::KEY_BEGIN),
+        size: column(rows, row, columns::KEY_SIZE),
     }
 }
 
@@ -288,8 +338,8 @@ pub fn body_at(rows: &[usize], row: usize) -> Span
     ensures { λ r. ⌜ r ≡ bodyAt (now (rows .entry)) row ⌝ }
 {
     Span {
-        begin: column(rows, row, 4),
-        size: column(rows, row, 5),
+        begin: column(rows, row, columns::BODY_BEGIN),
+        size: column(rows, row, columns::BODY_SIZE),
     }
 }
 

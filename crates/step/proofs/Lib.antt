@@ -1,8 +1,6 @@
 pub mod Flags
 pub mod Markers
-pub mod Modes
+pub mod Acts
 pub mod Parts
 pub mod Raws
-pub mod Rooms
-pub mod Shapes
 pub mod Texts

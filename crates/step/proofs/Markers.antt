@@ -10,14 +10,16 @@ use Rattle.rows.specs.declared.Cursor.{Cursor}
 use Rattle.rows.specs.declared.Key.{Key}
 use Rattle.wire.specs.Put.{with1}
 use Rattle.format.specs.Decide.{Out, give, marker, lost, refuse}
-use Rattle.decide.specs.Held.{leaving}
+use Rattle.decide.specs.Outcomes.{leaving}
+use Rattle.rows.specs.Memory.{rowWidth}
+use Rattle.format.specs.Refusals as refusals
 
 pub marker-open : (key : Key) (left b : ℕ) (R R′ : List ℕ) (c c′ : Cursor) (o : Out Unit ℕ) (a : ℕ)
     → with1 o R′ ≡ leaving R (marker key left b R c) → o ≡ give a tt c′ → 0 < left
 unfolding marker
-marker-open key zero b R R′ c c′ o a e q = by (ltb (length R / 12) (c .rows)) (ltb 17 b) e
+marker-open key zero b R R′ c c′ o a e q = by (ltb (length R / rowWidth) (c .rows)) (ltb 17 b) e
   where
-    by : (t u : Bool) → with1 o R′ ≡ leaving R (cond t lost (cond u (refuse 3 b c) (refuse 9 0 c))) → 0 < zero
+    by : (t u : Bool) → with1 o R′ ≡ leaving R (cond t lost (cond u (refuse 3 b c) (refuse refusals.tooDeep 0 c))) → 0 < zero
     by true u e = let z : _≡_ {A = ℕ} 0 1 = cc in omega arith
     by false true e = let z : _≡_ {A = ℕ} 0 1 = cc in omega arith
     by false false e = let z : _≡_ {A = ℕ} 0 1 = cc in omega arith

@@ -13,9 +13,10 @@ use Rattle.wire.proofs.Digits.{before-small}
 use Rattle.format.specs.declared.Frame.{Frame}
 use Rattle.format.specs.declared.Work.{Work}
 use Rattle.format.specs.Step.{wait, broken, atWord, atNumber}
-use Rattle.format.specs.Numbers.{noWork, workOf}
-use Rattle.resume.specs.Held.{After, afterOf, withWord, withNumber, IsWord, IsNumber}
-use Rattle.resume.proofs.Purposes.{wordOf, words, numberOf, numbers}
+use Rattle.format.specs.Numbers.{noWork, workOf, withWord, withNumber}
+use Rattle.resume.specs.Steps.{After, afterOf}
+use Rattle.states.specs.Purposes.{IsWord, IsNumber}
+use Rattle.states.proofs.Purposes.{wordOf, words, numberOf, numbers}
 
 -- what four bytes can say
 pub whole-small : (left n b m : ℕ) → b < 256 → partOf left n b ≡ Whole m → m < 2 ^ 30

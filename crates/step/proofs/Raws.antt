@@ -11,10 +11,12 @@ use Rattle.format.specs.declared.Work.{Work}
 use Rattle.format.specs.Decide.{Out, give, onRows, onStore, stored}
 use Rattle.format.specs.Step.{State, on, broken, atRaw, rawGrown, filling, act}
 use Rattle.decide.specs.declared.Refusal.{Refusal}
-use Rattle.decide.specs.Held.{leaving, stopped}
-use Rattle.resume.specs.Held.{After, afterOf, withRaw, IsRaw, grownBy}
+use Rattle.decide.specs.Outcomes.{leaving, stopped}
+use Rattle.resume.specs.Steps.{After, afterOf, grownBy}
+use Rattle.format.specs.Numbers.{withRaw}
+use Rattle.states.specs.Purposes.{IsRaw}
 use Rattle.resume.proofs.Decided.{refusedWith, wrote, stopt}
-use Rattle.resume.proofs.Purposes.{between, purposed, rawOf, raws}
+use Rattle.states.proofs.Purposes.{between, purposed, rawOf, raws}
 
 raw-grown : (w : Work) → IsRaw (w .purpose) → (m : Memory) (c : Cursor)
     → rawGrown (rawOf (w .purpose) (w .row)) (w .span) (w .left) m c ≡ onRows (grownBy w) m c

@@ -12,9 +12,10 @@ use Rattle.format.specs.declared.Frame.{Frame}
 use Rattle.format.specs.declared.Work.{Work}
 use Rattle.format.specs.Decide.{onStore, stored}
 use Rattle.format.specs.Step.{Text, State, wait, on, broken, atText, textDone, act}
-use Rattle.format.specs.Numbers.{noWork, workOf}
-use Rattle.resume.specs.Held.{After, afterOf, withText, IsText}
-use Rattle.resume.proofs.Purposes.{textOf, texts}
+use Rattle.format.specs.Numbers.{noWork, workOf, withText}
+use Rattle.resume.specs.Steps.{After, afterOf}
+use Rattle.states.specs.Purposes.{IsText}
+use Rattle.states.proofs.Purposes.{textOf, texts}
 
 -- after the byte is stored, the text test being t
 unfoldable pub afterText : List Frame → Text → Span → ℕ → ℕ → Unit {0} → Cursor → Memory → State

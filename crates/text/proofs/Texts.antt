@@ -12,7 +12,7 @@ use Rattle.rows.specs.Memory.{columnAt, bodyAt, colKind}
 use Rattle.format.specs.RowTest.{hasText}
 use Rattle.format.specs.Unfold.{col, part}
 use Rattle.format.specs.Text.{nowhere, found, textIn, textFrom}
-use Rattle.text.specs.Held.{partOr}
+use Rattle.text.specs.Found.{partOr}
 
 module _ (R B : List ℕ) (i : ℕ) {kind : ℕ} (k : kind ≡ columnAt R i colKind) where
   there : {t : Bool} → t ≡ hasText kind → t ≡ hasText (col R i colKind)

@@ -1,19 +1,12 @@
 // Text access: the part of the store that a row's text is, or the caller's own default.
 
 use rows::Span;
+use rows::kinds;
 ghost use mathlib.Core.Path.{_≡_};
 ghost use Rattle.format.specs.RowTest.{hasText};
 ghost use Rattle.format.specs.Unfold.{home, part};
 ghost use Rattle.format.specs.Text.{textIn, textSpan, textOr};
-ghost use Rattle.text.specs.Held.{foundOf, partOr};
-
-const KIND_STRING: usize = 6;
-
-const KIND_XML_DOCUMENT: usize = 7;
-
-const KIND_XML: usize = 11;
-
-const KIND_REFERENCE: usize = 18;
+ghost use Rattle.text.specs.Found.{foundOf, partOr};
 
 // The span of a row's text, or there is none.
 pub enum Found {
@@ -25,20 +18,20 @@ pub enum Found {
 pub fn has_text(kind: usize) -> bool
     ensures { λ r. ⌜ r ≡ hasText kind ⌝ }
 {
-    if kind == KIND_STRING {
+    if kind == kinds::STRING {
         return true;
     }
-    if kind == KIND_XML_DOCUMENT {
+    if kind == kinds::XML_DOCUMENT {
         return true;
     }
-    kind == KIND_XML
+    kind == kinds::XML
 }
 
 // A reference stands for its target, another row for itself.
 pub fn home_of(rows: &[usize], row: usize) -> usize
     ensures { λ r. ⌜ r ≡ home (now (rows .entry)) row ⌝ }
 {
-    if rows::kind_at(rows, row) == KIND_REFERENCE {
+    if rows::kind_at(rows, row) == kinds::REFERENCE {
         return rows::number_at(rows, row);
     }
     row

@@ -9,7 +9,7 @@ use lib.Dec.{eqb, eqb→eq}
 use lib.ListN.{List·getD-eq-default}
 use borrow.Author.Tests.{lt-ltb, le-ltb, le-leb, lt-leb}
 use Rattle.utf8.specs.Grammar.{Range, _to_, has, Rest, broken, after, next}
-use Rattle.utf8.specs.States.{rests, restOf, stateOf, stepOf}
+use Rattle.utf8.specs.States.{rests, restOf, numberOfRest, stepOf}
 use Rattle.utf8.specs.Ladder.{startOf, withinOf}
 use Rattle.utf8.proofs.Finite.{below-at}
 
@@ -31,19 +31,19 @@ within-has b lo hi then =
           ]
     ]
 
-state-cond : (t : Bool) (x y : Rest) → cond t (stateOf x) (stateOf y) ≡ stateOf (cond t x y)
+state-cond : (t : Bool) (x y : Rest) → cond t (numberOfRest x) (numberOfRest y) ≡ numberOfRest (cond t x y)
 state-cond true x y = refl
 state-cond false x y = refl
 
 -- a state that waits for a range
-pub within-step : (k b lo hi : ℕ) (rs : List Range) → restOf k ≡ after ((lo to hi) ∷ rs) → withinOf b lo hi (stateOf (after rs)) ≡ stepOf k b
+pub within-step : (k b lo hi : ℕ) (rs : List Range) → restOf k ≡ after ((lo to hi) ∷ rs) → withinOf b lo hi (numberOfRest (after rs)) ≡ stepOf k b
 unfolding stepOf
 within-step k b lo hi rs e =
-    within-has b lo hi (stateOf (after rs))
+    within-has b lo hi (numberOfRest (after rs))
     ∙ state-cond (has (lo to hi) b) (after rs) broken
-    ∙ ap (λ (r : Rest). stateOf (next r b)) (sym e)
+    ∙ ap (λ (r : Rest). numberOfRest (next r b)) (sym e)
 
 -- a number above the states
 pub broken-step : (k b : ℕ) → 8 ≤ k → stepOf k b ≡ 8
 unfolding stepOf
-broken-step k b h = ap (λ (r : Rest). stateOf (next r b)) (List·getD-eq-default rests broken h)
+broken-step k b h = ap (λ (r : Rest). numberOfRest (next r b)) (List·getD-eq-default rests broken h)

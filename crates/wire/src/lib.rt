@@ -1,6 +1,8 @@
 // The numbers of AMF 3 as they stand on the wire, from bytes and to bytes. Each function answers for every input, and what it
 // answers is its definition in specs/.
 
+pub mod markers;
+
 ghost use mathlib.Core.Path.{_≡_};
 ghost use mathlib.Core.Bool.{false};
 ghost use Prim.Native.Nat.{_+_, _≤_, _<_};

@@ -18,6 +18,7 @@ use Rattle.format.proofs.Loans.{lent}
 use Rattle.format.proofs.Unfolded.{column-small}
 use Rattle.writer.specs.Pieces.{Fit, Of, Plainly}
 use Rattle.writer.proofs.Columns.{read}
+use Rattle.rows.specs.Memory.{rowsMost}
 
 -- a row with a kind is there
 pub there : (R : List ℕ) (j : ℕ) → 0 < col R j colKind → j < rowsIn R
@@ -73,7 +74,7 @@ module _ {R B : List ℕ} (fit : Fit R B) (j : ℕ) where
         rw (← read R j colNumber (omega arith) g) (leb-true (col R j colNumber) (2 ^ 53) (rw i at (row (omega arith) .number)))
 
   -- the values in a row are other rows
-  few : 0 < col R j colKind → suc j + children R j ≤ 16384
+  few : 0 < col R j colKind → suc j + children R j ≤ rowsMost
   few h =
       omega (
         arith,
@@ -87,21 +88,21 @@ module _ {kind : ℕ} {R B : List ℕ} {j : ℕ} (of : Of kind R B j) {n : ℕ} 
   count = read R j colCount (omega arith) e
 
   -- of an array or an object
-  pub two-few : {m : ℕ} → 0 < kind → hasCount2 kind ≡ true → m ≡ columnAt R j colCount2 → suc j + (n + m) ≤ 16384
+  pub two-few : {m : ℕ} → 0 < kind → hasCount2 kind ≡ true → m ≡ columnAt R j colCount2 → suc j + (n + m) ≤ rowsMost
   unfolding children
   two-few {m} h t g =
       let i : col R j colKind ≡ kind = of .is in
       let c : children R j ≡ n + m = rw (i, t, count, read R j colCount2 (omega arith) g) in
       omega (arith, few (of .fit) j (omega arith))
 
-  pub vector-few : kind ≡ kindObjectVector → suc j + n ≤ 16384
+  pub vector-few : kind ≡ kindObjectVector → suc j + n ≤ rowsMost
   unfolding children
   vector-few h =
       let i : col R j colKind ≡ kind = of .is in
       let c : children R j ≡ n = rw (i, h, count) in
       omega (arith, few (of .fit) j (omega arith))
 
-  pub dictionary-few : kind ≡ kindDictionary → suc j + 2 * n ≤ 16384
+  pub dictionary-few : kind ≡ kindDictionary → suc j + 2 * n ≤ rowsMost
   unfolding children
   dictionary-few h =
       let i : col R j colKind ≡ kind = of .is in

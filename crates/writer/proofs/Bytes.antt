@@ -11,7 +11,7 @@ use lib.Seq.{sets, slice, sets-eq, length-sets, take-length, take-append-seam}
 use Rattle.wire.specs.declared.Put as wire
 use Rattle.wire.specs.declared.Put.the-variants as wirePut
 use Rattle.wire.specs.Put.{with1, putAt}
-use Rattle.format.specs.Writing.{these, bytesOf}
+use Rattle.format.specs.Writing.{these, streamBytes}
 use Rattle.format.proofs.Tests.{clash}
 use Rattle.writer.specs.declared.Put.{Put}
 use Rattle.writer.specs.declared.Put.the-variants.{At, Stop}
@@ -35,13 +35,13 @@ module _ (dry : Bool) (at : ℕ) (O : List ℕ) where
     pub part-whole : at < length O → length s ≤ length O - at → P ≡ left dry O at (take (length s) s)
         → ran (At (at + length s)) P ≡ run dry (these s) at O
     part-whole l h e =
-        let k : at + length (bytesOf (these s)) ≤ length O = rw (these-bytes s) (omega arith) in
+        let k : at + length (streamBytes (these s)) ≤ length O = rw (these-bytes s) (omega arith) in
         sym (fits dry (these s) at O k ∙ rw (these-end s, these-bytes s, e, take-length s))
 
     pub part-some : at < length O → length O - at < length s → P ≡ left dry O at (take (length O - at) s)
         → ran (Stop 10 (length O)) P ≡ run dry (these s) at O
     part-some l h e =
-        let k : length O < at + length (bytesOf (these s)) = rw (these-bytes s) (omega arith) in
+        let k : length O < at + length (streamBytes (these s)) = rw (these-bytes s) (omega arith) in
         sym (past dry (these s) at O (omega arith) k ∙ rw (these-bytes s, e))
 
   -- ---- a byte

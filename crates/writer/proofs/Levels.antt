@@ -16,6 +16,8 @@ use Rattle.writer.specs.Pieces.{objectHeadAt, vectorHeadAt}
 use Rattle.format.proofs.Columns.{column-is}
 use Rattle.writer.proofs.Lists.{names-same}
 use Rattle.writer.proofs.Nodes.{array-is, object-is, vector-is, dictionary-is, object-head, vector-head}
+use Rattle.rows.specs.Kinds.{kindUndefined, kindNull, kindBoolean, kindInteger, kindDouble, kindString, kindXmlDocument, kindDate, kindXml}
+use Rattle.rows.specs.Kinds.{kindByteArray, kindIntVector, kindUintVector, kindDoubleVector, kindReference}
 
 module _ (R B : List ℕ) (rows : (i : ℕ) → i < rowsIn R → Row R B i) (F : Tree → Stream) (f g : ℕ → Tree)
     (agree : (k : ℕ) → k < rowsIn R → F (f k) ≡ F (g k)) where
@@ -104,24 +106,24 @@ module _ (R B : List ℕ) (rows : (i : ℕ) → i < rowsIn R → Row R B i) (F :
     unfolding node
     node-same =
         kind-is (col R p colKind) 0 (omega arith) (λ e. rw e) λ l.
-        kind-is (col R p colKind) 1 l (λ e. rw e) λ l.
-        kind-is (col R p colKind) 2 l (λ e. rw e) λ l.
-        kind-is (col R p colKind) 3 l (λ e. rw e) λ l.
-        kind-is (col R p colKind) 4 l (λ e. rw e) λ l.
-        kind-is (col R p colKind) 5 l (λ e. rw e) λ l.
-        kind-is (col R p colKind) 6 l (λ e. rw e) λ l.
-        kind-is (col R p colKind) 7 l (λ e. rw e) λ l.
-        kind-is (col R p colKind) 8 l (λ e. rw e) λ l.
-        kind-is (col R p colKind) 9 l array-same λ l.
-        kind-is (col R p colKind) 10 l object-same λ l.
-        kind-is (col R p colKind) 11 l (λ e. rw e) λ l.
-        kind-is (col R p colKind) 12 l (λ e. rw e) λ l.
-        kind-is (col R p colKind) 13 l (λ e. rw e) λ l.
-        kind-is (col R p colKind) 14 l (λ e. rw e) λ l.
-        kind-is (col R p colKind) 15 l (λ e. rw e) λ l.
-        kind-is (col R p colKind) 16 l vector-same λ l.
-        kind-is (col R p colKind) 17 l dictionary-same λ l.
-        kind-is (col R p colKind) 18 l (λ e. rw e) λ l.
+        kind-is (col R p colKind) kindUndefined l (λ e. rw e) λ l.
+        kind-is (col R p colKind) kindNull l (λ e. rw e) λ l.
+        kind-is (col R p colKind) kindBoolean l (λ e. rw e) λ l.
+        kind-is (col R p colKind) kindInteger l (λ e. rw e) λ l.
+        kind-is (col R p colKind) kindDouble l (λ e. rw e) λ l.
+        kind-is (col R p colKind) kindString l (λ e. rw e) λ l.
+        kind-is (col R p colKind) kindXmlDocument l (λ e. rw e) λ l.
+        kind-is (col R p colKind) kindDate l (λ e. rw e) λ l.
+        kind-is (col R p colKind) kindArray l array-same λ l.
+        kind-is (col R p colKind) kindObject l object-same λ l.
+        kind-is (col R p colKind) kindXml l (λ e. rw e) λ l.
+        kind-is (col R p colKind) kindByteArray l (λ e. rw e) λ l.
+        kind-is (col R p colKind) kindIntVector l (λ e. rw e) λ l.
+        kind-is (col R p colKind) kindUintVector l (λ e. rw e) λ l.
+        kind-is (col R p colKind) kindDoubleVector l (λ e. rw e) λ l.
+        kind-is (col R p colKind) kindObjectVector l vector-same λ l.
+        kind-is (col R p colKind) kindDictionary l dictionary-same λ l.
+        kind-is (col R p colKind) kindReference l (λ e. rw e) λ l.
         absurd (omega (arith, rows p h .high))
 
 pub emit-levels : (R B : List ℕ) → tested R B ≡ fine → (left i : ℕ) → i < rowsIn R → emit left (unfolded R B i) ≡ emit left (treeAt left R B i)

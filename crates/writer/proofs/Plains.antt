@@ -116,27 +116,30 @@ module _ (R B : List ℕ) (j : ℕ) (f : ℕ → Tree) (F : Tree → Stream) {k 
       doubles-is h = rw (kinded h, flag, ← b)
 
   -- null, and kinds that there are not
-  pub null-is : Plainly R B j → Others (15 ∷ 14 ∷ 13 ∷ 12 ∷ 11 ∷ 8 ∷ 7 ∷ 6 ∷ 5 ∷ 4 ∷ 3 ∷ 1 ∷ []) k → these (0x01 ∷ []) ≡ here
+  pub null-is : Plainly R B j → Others
+      (kinds.kindDoubleVector ∷ kinds.kindUintVector ∷ kinds.kindIntVector ∷ kinds.kindByteArray ∷ kinds.kindXml ∷ kinds.kindDate ∷ kinds.kindXmlDocument
+      ∷ kinds.kindString
+      ∷ kinds.kindDouble ∷ kinds.kindInteger ∷ kinds.kindBoolean ∷ kinds.kindUndefined ∷ []) k → these (0x01 ∷ []) ≡ here
   unfolding emitIn node encodePlain
   null-is p o =
       let c = kinded refl in
       kind-is k 0 (omega arith) (λ h. rw (kinded h)) λ l.
-      kind-is k 1 l (λ h. absurd (o .0 .0 .0 .0 .0 .0 .0 .0 .0 .0 .0 .1 h)) λ l.
-      kind-is k 2 l (λ h. rw (kinded h)) λ l.
-      kind-is k 3 l (λ h. absurd (o .0 .0 .0 .0 .0 .0 .0 .0 .0 .0 .1 h)) λ l.
-      kind-is k 4 l (λ h. absurd (o .0 .0 .0 .0 .0 .0 .0 .0 .0 .1 h)) λ l.
-      kind-is k 5 l (λ h. absurd (o .0 .0 .0 .0 .0 .0 .0 .0 .1 h)) λ l.
-      kind-is k 6 l (λ h. absurd (o .0 .0 .0 .0 .0 .0 .0 .1 h)) λ l.
-      kind-is k 7 l (λ h. absurd (o .0 .0 .0 .0 .0 .0 .1 h)) λ l.
-      kind-is k 8 l (λ h. absurd (o .0 .0 .0 .0 .0 .1 h)) λ l.
-      kind-is k 9 l (λ h. absurd (p .no-array (kinded h))) λ l.
-      kind-is k 10 l (λ h. absurd (p .no-object (kinded h))) λ l.
-      kind-is k 11 l (λ h. absurd (o .0 .0 .0 .0 .1 h)) λ l.
-      kind-is k 12 l (λ h. absurd (o .0 .0 .0 .1 h)) λ l.
-      kind-is k 13 l (λ h. absurd (o .0 .0 .1 h)) λ l.
-      kind-is k 14 l (λ h. absurd (o .0 .1 h)) λ l.
-      kind-is k 15 l (λ h. absurd (o .1 h)) λ l.
-      kind-is k 16 l (λ h. absurd (p .no-vector (kinded h))) λ l.
-      kind-is k 17 l (λ h. absurd (p .no-dictionary (kinded h))) λ l.
-      kind-is k 18 l (λ h. rw (kinded h)) λ l.
+      kind-is k kinds.kindUndefined l (λ h. absurd (o .0 .0 .0 .0 .0 .0 .0 .0 .0 .0 .0 .1 h)) λ l.
+      kind-is k kinds.kindNull l (λ h. rw (kinded h)) λ l.
+      kind-is k kinds.kindBoolean l (λ h. absurd (o .0 .0 .0 .0 .0 .0 .0 .0 .0 .0 .1 h)) λ l.
+      kind-is k kinds.kindInteger l (λ h. absurd (o .0 .0 .0 .0 .0 .0 .0 .0 .0 .1 h)) λ l.
+      kind-is k kinds.kindDouble l (λ h. absurd (o .0 .0 .0 .0 .0 .0 .0 .0 .1 h)) λ l.
+      kind-is k kinds.kindString l (λ h. absurd (o .0 .0 .0 .0 .0 .0 .0 .1 h)) λ l.
+      kind-is k kinds.kindXmlDocument l (λ h. absurd (o .0 .0 .0 .0 .0 .0 .1 h)) λ l.
+      kind-is k kinds.kindDate l (λ h. absurd (o .0 .0 .0 .0 .0 .1 h)) λ l.
+      kind-is k kinds.kindArray l (λ h. absurd (p .no-array (kinded h))) λ l.
+      kind-is k kinds.kindObject l (λ h. absurd (p .no-object (kinded h))) λ l.
+      kind-is k kinds.kindXml l (λ h. absurd (o .0 .0 .0 .0 .1 h)) λ l.
+      kind-is k kinds.kindByteArray l (λ h. absurd (o .0 .0 .0 .1 h)) λ l.
+      kind-is k kinds.kindIntVector l (λ h. absurd (o .0 .0 .1 h)) λ l.
+      kind-is k kinds.kindUintVector l (λ h. absurd (o .0 .1 h)) λ l.
+      kind-is k kinds.kindDoubleVector l (λ h. absurd (o .1 h)) λ l.
+      kind-is k kinds.kindObjectVector l (λ h. absurd (p .no-vector (kinded h))) λ l.
+      kind-is k kinds.kindDictionary l (λ h. absurd (p .no-dictionary (kinded h))) λ l.
+      kind-is k kinds.kindReference l (λ h. rw (kinded h)) λ l.
       absurd (omega (arith, row (p .fit) j (omega arith) .high))

@@ -10,7 +10,7 @@ use borrow.Author.Tests.{le-leb, lt-leb}
 use lib.Dec.{eqb}
 use lib.ListN.{length, drop}
 use lib.Seq.{sets, sets-eq}
-use Rattle.format.specs.Writing.{Stream, bytesOf, isDeep, written, unwritten, settle}
+use Rattle.format.specs.Writing.{Stream, streamBytes, isDeep, written, unwritten, settle}
 use Rattle.writer.specs.declared.Put.{Put}
 use Rattle.writer.specs.declared.Put.the-variants.{At, Stop}
 use Rattle.writer.specs.Run.{ran, run}
@@ -21,14 +21,14 @@ abbrev pub told : ℕ → ℕ
 told n = cond (eqb n 10) 7 0
 
 module _ (x : Stream) (O : List ℕ) {m : Put} {P : List ℕ} (d : ran m P ≡ run true x 0 O) where
-  fitted : length (bytesOf x) ≤ length O → ran m P ≡ ran (ended x (length (bytesOf x))) O
-  fitted l = rw (zero-add (length (bytesOf x))) at (d ∙ fits true x 0 O (omega arith))
+  fitted : length (streamBytes x) ≤ length O → ran m P ≡ ran (ended x (length (streamBytes x))) O
+  fitted l = rw (zero-add (length (streamBytes x))) at (d ∙ fits true x 0 O (omega arith))
 
-  passed : length O < length (bytesOf x) → ran m P ≡ ran (Stop 10 (length O)) O
+  passed : length O < length (streamBytes x) → ran m P ≡ ran (Stop 10 (length O)) O
   passed l = d ∙ past true x 0 O (omega arith) (omega arith)
 
-  stopped : {n p : ℕ} (t : Bool) → m ≡ Stop n p → ran m P ≡ ran (cond t (Stop 9 (length (bytesOf x))) (At (length (bytesOf x)))) O
-      → unwritten n (told n) p P ≡ cond t (unwritten 9 0 (length (bytesOf x)) O) (written (length (bytesOf x)) (bytesOf x ++ drop (length (bytesOf x)) O))
+  stopped : {n p : ℕ} (t : Bool) → m ≡ Stop n p → ran m P ≡ ran (cond t (Stop 9 (length (streamBytes x))) (At (length (streamBytes x)))) O
+      → unwritten n (told n) p P ≡ cond t (unwritten 9 0 (length (streamBytes x)) O) (written (length (streamBytes x)) (streamBytes x ++ drop (length (streamBytes x)) O))
   stopped {n} {p} true g f = let e : n ≡ 9 = cc in rw e (cc)
   stopped false g f = cc
 
@@ -36,18 +36,18 @@ module _ (x : Stream) (O : List ℕ) {m : Put} {P : List ℕ} (d : ran m P ≡ r
   pub settle-stop : {n p : ℕ} → m ≡ Stop n p → unwritten n (told n) p P ≡ settle x O
   unfolding settle
   settle-stop {n} {p} g =
-      elim (decLe (length (bytesOf x)) (length O)) [
+      elim (decLe (length (streamBytes x)) (length O)) [
         | yes l ↦ rw (le-leb _ _ l) (stopped (isDeep x) g (fitted l))
         | no l ↦
-            (let k : length O < length (bytesOf x) = omega arith in
+            (let k : length O < length (streamBytes x) = omega arith in
             let f : ran m P ≡ ran (Stop 10 (length O)) O = passed k in
             let e : n ≡ 10 = cc in
             rw (lt-leb _ _ k, e) (cc))
       ]
 
-  whole : {n : ℕ} {Q : List ℕ} (t : Bool) → m ≡ At n → ran m P ≡ ran (cond t (Stop 9 (length (bytesOf x))) (At (length (bytesOf x)))) O
-      → Q ≡ bytesOf x ++ drop (length (bytesOf x)) O
-      → written n Q ≡ cond t (unwritten 9 0 (length (bytesOf x)) O) (written (length (bytesOf x)) (bytesOf x ++ drop (length (bytesOf x)) O))
+  whole : {n : ℕ} {Q : List ℕ} (t : Bool) → m ≡ At n → ran m P ≡ ran (cond t (Stop 9 (length (streamBytes x))) (At (length (streamBytes x)))) O
+      → Q ≡ streamBytes x ++ drop (length (streamBytes x)) O
+      → written n Q ≡ cond t (unwritten 9 0 (length (streamBytes x)) O) (written (length (streamBytes x)) (streamBytes x ++ drop (length (streamBytes x)) O))
   whole true g f s = cc
   whole false g f s = cc
 
@@ -55,16 +55,16 @@ module _ (x : Stream) (O : List ℕ) {m : Put} {P : List ℕ} (d : ran m P ≡ r
   pub settle-written : {n : ℕ} {w : Put} {Q : List ℕ} → m ≡ At n → ran w Q ≡ run false x 0 P → written n Q ≡ settle x O
   unfolding settle
   settle-written {n} {w} {Q} g r =
-      elim (decLe (length (bytesOf x)) (length O)) [
+      elim (decLe (length (streamBytes x)) (length O)) [
         | yes l ↦
             (let o : P ≡ O = same (fitted l) in
-            let h : ran w Q ≡ ran (ended x (0 + length (bytesOf x))) (sets O 0 (bytesOf x)) = (rw o at r) ∙ fits false x 0 O (omega arith) in
-            let s : Q ≡ sets O 0 (bytesOf x) = cc in
-            let z : sets O 0 (bytesOf x) ≡ bytesOf x ++ drop (length (bytesOf x)) O =
-            rw (zero-add (length (bytesOf x))) at (sets-eq (bytesOf x) O 0 (omega arith)) in
+            let h : ran w Q ≡ ran (ended x (0 + length (streamBytes x))) (sets O 0 (streamBytes x)) = (rw o at r) ∙ fits false x 0 O (omega arith) in
+            let s : Q ≡ sets O 0 (streamBytes x) = cc in
+            let z : sets O 0 (streamBytes x) ≡ streamBytes x ++ drop (length (streamBytes x)) O =
+            rw (zero-add (length (streamBytes x))) at (sets-eq (streamBytes x) O 0 (omega arith)) in
             rw (le-leb _ _ l) (whole (isDeep x) g (fitted l) (s ∙ z)))
         | no l ↦
-            (let k : length O < length (bytesOf x) = omega arith in
+            (let k : length O < length (streamBytes x) = omega arith in
             let f : ran m P ≡ ran (Stop 10 (length O)) O = passed k in
             rw (lt-leb _ _ k) (cc))
       ]

@@ -11,7 +11,7 @@ use borrow.Author.Tests.{lt-ltb, le-ltb}
 use lib.Dec.{ltb}
 use lib.ListN.{length, set, take, length-set}
 use lib.Seq.{sets}
-use Rattle.format.specs.Writing.{Stream, done, deep, byte, _then_, these, bytesOf, isDeep}
+use Rattle.format.specs.Writing.{Stream, done, deep, byte, _then_, these, streamBytes, isDeep}
 use Rattle.writer.specs.declared.Put.{Put}
 use Rattle.writer.specs.declared.Put.the-variants.{At, Stop}
 use Rattle.writer.specs.Run.{Ran, ran, run}
@@ -82,21 +82,21 @@ left-length true O at b = refl
 left-length false O at b = length-set O at b
 
 -- where all of the bytes fit
-pub fits : (dry : Bool) (x : Stream) (at : ℕ) (O : List ℕ) → at + length (bytesOf x) ≤ length O
-    → run dry x at O ≡ ran (ended x (at + length (bytesOf x))) (left dry O at (bytesOf x))
-unfolding run bytesOf isDeep
+pub fits : (dry : Bool) (x : Stream) (at : ℕ) (O : List ℕ) → at + length (streamBytes x) ≤ length O
+    → run dry x at O ≡ ran (ended x (at + length (streamBytes x))) (left dry O at (streamBytes x))
+unfolding run streamBytes isDeep
 fits dry done at O h = rw (add-zero at) (ap (ran (At at)) (left-nil dry O at))
 fits dry deep at O h = rw (add-zero at) (ap (ran (Stop 9 at)) (left-nil dry O at))
 fits dry (byte b x) at O h =
     let l : at < length O = omega arith in
-    let k : at + 1 + length (bytesOf x) ≡ at + suc (length (bytesOf x)) = omega arith in
-    let q : at + 1 + length (bytesOf x) ≤ length (cond dry O (set O at b)) = rw (left-length dry O at b) (omega arith) in
-    rw (lt-ltb _ _ l, ← k, ← left-more dry O at b (bytesOf x)) (fits dry x (at + 1) (cond dry O (set O at b)) q)
+    let k : at + 1 + length (streamBytes x) ≡ at + suc (length (streamBytes x)) = omega arith in
+    let q : at + 1 + length (streamBytes x) ≤ length (cond dry O (set O at b)) = rw (left-length dry O at b) (omega arith) in
+    rw (lt-ltb _ _ l, ← k, ← left-more dry O at b (streamBytes x)) (fits dry x (at + 1) (cond dry O (set O at b)) q)
 
 -- where they don't
-pub past : (dry : Bool) (x : Stream) (at : ℕ) (O : List ℕ) → at ≤ length O → length O < at + length (bytesOf x)
-    → run dry x at O ≡ ran (Stop 10 (length O)) (left dry O at (take (length O - at) (bytesOf x)))
-unfolding run bytesOf
+pub past : (dry : Bool) (x : Stream) (at : ℕ) (O : List ℕ) → at ≤ length O → length O < at + length (streamBytes x)
+    → run dry x at O ≡ ran (Stop 10 (length O)) (left dry O at (take (length O - at) (streamBytes x)))
+unfolding run streamBytes
 past dry done at O l h = absurd (omega arith)
 past dry deep at O l h = absurd (omega arith)
 past dry (byte b x) at O l h =
@@ -110,14 +110,14 @@ past dry (byte b x) at O l h =
           let P : List ℕ = cond dry O (set O at b) in
           let n : length P ≡ length O = left-length dry O at b in
           let z : length O - at ≡ suc (length O - (at + 1)) = omega arith in
-          let i : run dry x (at + 1) P ≡ ran (Stop 10 (length P)) (left dry P (at + 1) (take (length P - (at + 1)) (bytesOf x))) =
+          let i : run dry x (at + 1) P ≡ ran (Stop 10 (length P)) (left dry P (at + 1) (take (length P - (at + 1)) (streamBytes x))) =
           past dry x (at + 1) P (omega arith) (omega arith) in
-          rw (lt-ltb _ _ q, z) (i ∙ rw (n, left-more dry O at b (take (length O - (at + 1)) (bytesOf x)))))
+          rw (lt-ltb _ _ q, z) (i ∙ rw (n, left-more dry O at b (take (length O - (at + 1)) (streamBytes x)))))
     ]
 
 -- bytes alone never stop
-pub these-bytes : (bs : List ℕ) → bytesOf (these bs) ≡ bs
-unfolding these bytesOf
+pub these-bytes : (bs : List ℕ) → streamBytes (these bs) ≡ bs
+unfolding these streamBytes
 these-bytes [] = refl
 these-bytes (b ∷ bs) = ap (λ (l : List ℕ). b ∷ l) (these-bytes bs)
 

@@ -1,7 +1,12 @@
 // The bytes of the tree of a row, each reference written as its target's whole tree: the same calls measure them, which stores nothing, and write them.
 
 use format::Written;
+use format::refusals;
 use judge::Judged;
+use rows::OPEN_LIMIT;
+use rows::kinds;
+use rows::loans;
+use wire::markers;
 ghost use mathlib.Core.Path.{_≡_};
 ghost use mathlib.Core.Bool.{cond, not};
 ghost use mathlib.Core.List.{[], _∷_, _++_};
@@ -27,89 +32,7 @@ pub enum Put {
     Stop { no: usize, place: usize },
 }
 
-const WRONG_LOAN: usize = 1;
-
-const TOO_DEEP: usize = 9;
-
-const NO_ROOM: usize = 10;
-
-// What 10 tells.
-const OUTPUT: usize = 7;
-
-// Values open at once.
-const OPEN_LIMIT: usize = 64;
-
-// ---- the kinds of rows
-
-const KIND_UNDEFINED: usize = 1;
-
-const KIND_BOOLEAN: usize = 3;
-
-const KIND_INTEGER: usize = 4;
-
-const KIND_DOUBLE: usize = 5;
-
-const KIND_STRING: usize = 6;
-
-const KIND_XML_DOCUMENT: usize = 7;
-
-const KIND_DATE: usize = 8;
-
-const KIND_ARRAY: usize = 9;
-
-const KIND_OBJECT: usize = 10;
-
-const KIND_XML: usize = 11;
-
-const KIND_BYTE_ARRAY: usize = 12;
-
-const KIND_INT_VECTOR: usize = 13;
-
-const KIND_UINT_VECTOR: usize = 14;
-
-const KIND_DOUBLE_VECTOR: usize = 15;
-
-const KIND_OBJECT_VECTOR: usize = 16;
-
-const KIND_DICTIONARY: usize = 17;
-
-// ---- markers, and other single bytes
-
-const MARKER_UNDEFINED: u8 = 0x00;
-
-const MARKER_NULL: u8 = 0x01;
-
-const MARKER_FALSE: u8 = 0x02;
-
-const MARKER_TRUE: u8 = 0x03;
-
-const MARKER_INTEGER: u8 = 0x04;
-
-const MARKER_DOUBLE: u8 = 0x05;
-
-const MARKER_STRING: u8 = 0x06;
-
-const MARKER_XML_DOCUMENT: u8 = 0x07;
-
-const MARKER_DATE: u8 = 0x08;
-
-const MARKER_ARRAY: u8 = 0x09;
-
-const MARKER_OBJECT: u8 = 0x0A;
-
-const MARKER_XML: u8 = 0x0B;
-
-const MARKER_BYTE_ARRAY: u8 = 0x0C;
-
-const MARKER_INT_VECTOR: u8 = 0x0D;
-
-const MARKER_UINT_VECTOR: u8 = 0x0E;
-
-const MARKER_DOUBLE_VECTOR: u8 = 0x0F;
-
-const MARKER_OBJECT_VECTOR: u8 = 0x10;
-
-const MARKER_DICTIONARY: u8 = 0x11;
+// ---- single bytes, and the low bits of words
 
 // An empty text: no class, and the end of pairs.
 const EMPTY_TEXT: u8 = 0x01;
@@ -148,7 +71,7 @@ fn put_part(part: &[u8], out: &mut [u8], at: usize, dry: bool) -> Put
     }
     if end <= at {
         return Put::Stop {
-            no: NO_ROOM,
+            no: refusals::NO_ROOM,
             place: at,
         };
     }
@@ -159,7 +82,7 @@ fn put_part(part: &[u8], out: &mut [u8], at: usize, dry: bool) -> Put
     }
     keep(part, out, at, room, dry);
     Put::Stop {
-        no: NO_ROOM,
+        no: refusals::NO_ROOM,
         place: end,
     }
 }
@@ -169,7 +92,7 @@ fn put_byte(out: &mut [u8], at: usize, b: u8, dry: bool) -> Put
 {
     if out.len() <= at {
         return Put::Stop {
-            no: NO_ROOM,
+            no: refusals::NO_ROOM,
             place: at,
         };
     }
@@ -187,7 +110,7 @@ fn put_u29(out: &mut [u8], at: usize, n: usize, dry: bool) -> Put
     let p = wire::put_u29(&mut form, 0, n);
     let wire::Put::At(size) = p else {
         return Put::Stop {
-            no: NO_ROOM,
+            no: refusals::NO_ROOM,
             place: at,
         };
     };
@@ -201,7 +124,7 @@ fn put_eight(out: &mut [u8], at: usize, n: usize, dry: bool) -> Put
     let p = wire::put_be64(&mut form, 0, n);
     let wire::Put::At(size) = p else {
         return Put::Stop {
-            no: NO_ROOM,
+            no: refusals::NO_ROOM,
             place: at,
         };
     };
@@ -265,9 +188,9 @@ fn put_boolean(out: &mut [u8], at: usize, number: usize, dry: bool) -> Put
     ensures { λ r. ⌜ ran r (now (out .exit)) ≡ run dry (these (encodePlain (boolean (not (eqb number 0))))) at (now (out .entry)) ⌝ }
 {
     if number == 0 {
-        return put_byte(out, at, MARKER_FALSE, dry);
+        return put_byte(out, at, markers::FALSE, dry);
     }
-    put_byte(out, at, MARKER_TRUE, dry)
+    put_byte(out, at, markers::TRUE, dry)
 }
 
 fn put_integer(out: &mut [u8], at: usize, number: usize, dry: bool) -> Put
@@ -277,17 +200,17 @@ fn put_integer(out: &mut [u8], at: usize, number: usize, dry: bool) -> Put
     let bits = wire::integer_bits(wire::of_column(number));
     let wire::Bits::Of(n) = bits else {
         return Put::Stop {
-            no: NO_ROOM,
+            no: refusals::NO_ROOM,
             place: at,
         };
     };
-    put_head(out, at, MARKER_INTEGER, n, dry)
+    put_head(out, at, markers::INTEGER, n, dry)
 }
 
 fn put_double(out: &mut [u8], at: usize, number: usize, dry: bool) -> Put
     ensures { λ r. ⌜ ran r (now (out .exit)) ≡ run dry (these (encodePlain (double number))) at (now (out .entry)) ⌝ }
 {
-    let a = put_byte(out, at, MARKER_DOUBLE, dry);
+    let a = put_byte(out, at, markers::DOUBLE, dry);
     let Put::At(next) = a else {
         return a;
     };
@@ -301,11 +224,11 @@ fn put_date(out: &mut [u8], at: usize, number: usize, dry: bool) -> Put
     let bits = wire::date_bits(number);
     let wire::Bits::Of(n) = bits else {
         return Put::Stop {
-            no: NO_ROOM,
+            no: refusals::NO_ROOM,
             place: at,
         };
     };
-    let a = put_head(out, at, MARKER_DATE, NEW, dry);
+    let a = put_head(out, at, markers::DATE, NEW, dry);
     let Put::At(next) = a else {
         return a;
     };
@@ -323,7 +246,8 @@ fn put_raw(
     dry: bool,
 ) -> Put
     requires { ⌜ 0 < width ⌝ }
-    ensures { λ r. ⌜ ran r (now (out .exit)) ≡ run dry (these (marker ∷ sizeBytes (length (now (part .entry)) / width) ++ flagByte (not (eqb flag 0)) ∷ now (part .entry))) at (now (out .entry)) ⌝ }
+    ensures { λ r. ⌜ ran r (now (out .exit))
+        ≡ run dry (these (marker ∷ sizeBytes (length (now (part .entry)) / width) ++ flagByte (not (eqb flag 0)) ∷ now (part .entry))) at (now (out .entry)) ⌝ }
 {
     let a = put_flagged(out, at, marker, part.len() / width, flag, dry);
     let Put::At(next) = a else {
@@ -350,7 +274,8 @@ fn row_after(rows: &[usize], first: usize, n: usize) -> usize
 // The value of a row that holds no others.
 fn put_plain(rows: &[usize], store: &[u8], out: &mut [u8], at: usize, j: usize, dry: bool) -> Put
     requires { ⌜ Plainly (now rows) (now store) j ⌝ }
-    ensures { λ r. ⌜ ((f : ℕ → Tree) (g : Tree → Stream) → ran r (now (out .exit)) ≡ run dry (emitIn g (node f (now (rows .entry)) (now (store .entry)) j)) at (now (out .entry))) ⌝ }
+    ensures { λ r. ⌜ ((f : ℕ → Tree) (g : Tree → Stream) → ran r (now (out .exit))
+        ≡ run dry (emitIn g (node f (now (rows .entry)) (now (store .entry)) j)) at (now (out .entry))) ⌝ }
 {
     let kind = rows::kind_at(rows, j);
     let number = rows::number_at(rows, j);
@@ -360,19 +285,19 @@ fn put_plain(rows: &[usize], store: &[u8], out: &mut [u8], at: usize, j: usize, 
     let size = body.size;
     let part = text::clip(store, begin, size);
     match kind {
-        KIND_UNDEFINED => put_byte(out, at, MARKER_UNDEFINED, dry),
-        KIND_BOOLEAN => put_boolean(out, at, number, dry),
-        KIND_INTEGER => put_integer(out, at, number, dry),
-        KIND_DOUBLE => put_double(out, at, number, dry),
-        KIND_STRING => put_marked(part, out, at, MARKER_STRING, dry),
-        KIND_XML_DOCUMENT => put_marked(part, out, at, MARKER_XML_DOCUMENT, dry),
-        KIND_DATE => put_date(out, at, number, dry),
-        KIND_XML => put_marked(part, out, at, MARKER_XML, dry),
-        KIND_BYTE_ARRAY => put_marked(part, out, at, MARKER_BYTE_ARRAY, dry),
-        KIND_INT_VECTOR => put_raw(part, out, at, MARKER_INT_VECTOR, 4, flag, dry),
-        KIND_UINT_VECTOR => put_raw(part, out, at, MARKER_UINT_VECTOR, 4, flag, dry),
-        KIND_DOUBLE_VECTOR => put_raw(part, out, at, MARKER_DOUBLE_VECTOR, 8, flag, dry),
-        _ => put_byte(out, at, MARKER_NULL, dry),
+        kinds::UNDEFINED => put_byte(out, at, markers::UNDEFINED, dry),
+        kinds::BOOLEAN => put_boolean(out, at, number, dry),
+        kinds::INTEGER => put_integer(out, at, number, dry),
+        kinds::DOUBLE => put_double(out, at, number, dry),
+        kinds::STRING => put_marked(part, out, at, markers::STRING, dry),
+        kinds::XML_DOCUMENT => put_marked(part, out, at, markers::XML_DOCUMENT, dry),
+        kinds::DATE => put_date(out, at, number, dry),
+        kinds::XML => put_marked(part, out, at, markers::XML, dry),
+        kinds::BYTE_ARRAY => put_marked(part, out, at, markers::BYTE_ARRAY, dry),
+        kinds::INT_VECTOR => put_raw(part, out, at, markers::INT_VECTOR, 4, flag, dry),
+        kinds::UINT_VECTOR => put_raw(part, out, at, markers::UINT_VECTOR, 4, flag, dry),
+        kinds::DOUBLE_VECTOR => put_raw(part, out, at, markers::DOUBLE_VECTOR, 8, flag, dry),
+        _ => put_byte(out, at, markers::NULL, dry),
     }
 }
 
@@ -424,7 +349,8 @@ fn put_class(
     j: usize,
     dry: bool,
 ) -> Put
-    ensures { λ r. ⌜ ran r (now (out .exit)) ≡ run dry (these (classBytes (now (none .entry)) (classText (now (rows .entry)) (now (store .entry)) j))) at (now (out .entry)) ⌝ }
+    ensures { λ r. ⌜ ran r (now (out .exit))
+        ≡ run dry (these (classBytes (now (none .entry)) (classText (now (rows .entry)) (now (store .entry)) j))) at (now (out .entry)) ⌝ }
 {
     if rows::class_at(rows, j) == 0 {
         return put_text(none, out, at, dry);
@@ -459,7 +385,7 @@ fn put_object_head(
 {
     let count = rows::count_at(rows, j);
     let word = trait_word(count, rows::count2_at(rows, j));
-    let a = put_head(out, at, MARKER_OBJECT, word, dry);
+    let a = put_head(out, at, markers::OBJECT, word, dry);
     let Put::At(p) = a else {
         return a;
     };
@@ -486,7 +412,7 @@ fn put_vector_head(
     let a = put_flagged(
         out,
         at,
-        MARKER_OBJECT_VECTOR,
+        markers::OBJECT_VECTOR,
         count,
         rows::flag_at(rows, j),
         dry,
@@ -576,7 +502,7 @@ fn write_array(
 {
     let count = rows::count_at(rows, j);
     let count2 = rows::count2_at(rows, j);
-    let a = put_head(out, at, MARKER_ARRAY, count2 * 2 + NEW, dry);
+    let a = put_head(out, at, markers::ARRAY, count2 * 2 + NEW, dry);
     let Put::At(p) = a else {
         return a;
     };
@@ -670,7 +596,7 @@ fn write_dictionary(
     let a = put_flagged(
         out,
         at,
-        MARKER_DICTIONARY,
+        markers::DICTIONARY,
         count,
         rows::flag_at(rows, j),
         dry,
@@ -696,17 +622,17 @@ fn write_value(
 {
     if left == 0 {
         return Put::Stop {
-            no: TOO_DEEP,
+            no: refusals::TOO_DEEP,
             place: at,
         };
     }
     let j = text::home_of(rows, i);
     let kind = rows::kind_at(rows, j);
     match kind {
-        KIND_ARRAY => write_array(rows, store, out, at, j, left - 1, dry),
-        KIND_OBJECT => write_object(rows, store, out, at, j, left - 1, dry),
-        KIND_OBJECT_VECTOR => write_vector(rows, store, out, at, j, left - 1, dry),
-        KIND_DICTIONARY => write_dictionary(rows, store, out, at, j, left - 1, dry),
+        kinds::ARRAY => write_array(rows, store, out, at, j, left - 1, dry),
+        kinds::OBJECT => write_object(rows, store, out, at, j, left - 1, dry),
+        kinds::OBJECT_VECTOR => write_vector(rows, store, out, at, j, left - 1, dry),
+        kinds::DICTIONARY => write_dictionary(rows, store, out, at, j, left - 1, dry),
         _ => put_plain(rows, store, out, at, j, dry),
     }
 }
@@ -717,8 +643,8 @@ fn write_value(
 fn told_by(no: usize) -> usize
     ensures { λ r. ⌜ r ≡ cond (eqb no 10) 7 0 ⌝ }
 {
-    if no == NO_ROOM {
-        return OUTPUT;
+    if no == refusals::NO_ROOM {
+        return loans::OUTPUT;
     }
     0
 }
@@ -748,7 +674,7 @@ pub fn write(rows: &[usize], store: &[u8], out: &mut [u8]) -> Written
     let fault = rows::loan_fault(rows.len(), store.len(), 0, 0, 0, 0);
     if fault != 0 {
         return Written::Unwritten {
-            no: WRONG_LOAN,
+            no: refusals::BAD_LOAN,
             told: fault,
             place: 0,
         };

@@ -1,5 +1,5 @@
 -- Made by proofs.py from answers/bodied.txt: change that file, not this one.
--- answers ebd66f529641 proof 0570ec5afc1b
+-- answers 21243e03b494 proof 8cedf32c8964
 use native.Mathlib.Omega.{arith}
 use mathlib.Core.Path.{sym, _∙_}
 use denote.Ref.{now}
@@ -79,14 +79,14 @@ same-length c = search needs
 
 returns : tie.Need-returns
 unfolding bodied
-returns c = sym (simp (sym (c .before .row-used .ensures) ∙ c .if1 .taken))
+returns c = sym (rw (sym (c .before .row-used .ensures) ∙ c .if1 .taken))
 
 lost-requires : tie.Need-lost-requires
 lost-requires c κs = search needs
 
 returns-2 : tie.Need-returns-2
 unfolding bodied
-returns-2 c = sym (simp (sym (c .before .before .row-used .ensures) ∙ c .before .if1 .left, stops Unit (c .lost .ensures)))
+returns-2 c = sym (rw (sym (c .before .before .row-used .ensures) ∙ c .before .if1 .left, stops Unit (c .lost .ensures)))
 
 pub bodied-spec : {M : Type 1} → statement M
 bodied-spec =

@@ -1,5 +1,5 @@
 -- Made by proofs.py from answers/body_of.txt: change that file, not this one.
--- answers b2ded6d6e27e proof 0a4dabcc8930
+-- answers 8c9614bcaeb0 proof 47f02c372cdc
 use mathlib.Core.Path.{sym, _∙_}
 use borrow.Author.Tests.{eq-eqb, ne-eqb, lt-ltb, le-ltb}
 use Rattle.decide.proofs.Markers.{body-by}
@@ -9,17 +9,17 @@ use Rattle.decide.proofs.body_of.Reads as reads
 use Rattle.decide.proofs.body_of.Lts as lts
 
 returns : tie.Need-returns
-returns c = sym (simp (lt-ltb _ _ (c .if1 .taken))) ∙ body-by (c .before .args .b)
+returns c = sym (rw (lt-ltb _ _ (c .if1 .taken))) ∙ body-by (c .before .args .b)
 
 returns-2 : tie.Need-returns-2
-returns-2 c = sym (simp (le-ltb _ _ (c .before .if1 .left), eq-eqb _ _ (c .if2 .taken))) ∙ body-by (c .before .before .args .b)
+returns-2 c = sym (rw (le-ltb _ _ (c .before .if1 .left), eq-eqb _ _ (c .if2 .taken))) ∙ body-by (c .before .before .args .b)
 
 returns-3 : tie.Need-returns-3
-returns-3 c = sym (simp (le-ltb _ _ (c .before .before .if1 .left), ne-eqb _ _ (c .before .if2 .left), eq-eqb _ _ (c .if3 .taken))) ∙ body-by
+returns-3 c = sym (rw (le-ltb _ _ (c .before .before .if1 .left), ne-eqb _ _ (c .before .if2 .left), eq-eqb _ _ (c .if3 .taken))) ∙ body-by
     (c .before .before .before .args .b)
 
 returns-4 : tie.Need-returns-4
-returns-4 c = sym (simp (
+returns-4 c = sym (rw (
   le-ltb _ _ (c .before .before .before .if1 .left),
   ne-eqb _ _ (c .before .before .if2 .left),
   ne-eqb _ _
@@ -28,7 +28,7 @@ returns-4 c = sym (simp (
 )) ∙ body-by (c .before .before .before .before .args .b)
 
 returns-5 : tie.Need-returns-5
-returns-5 c = sym (simp (
+returns-5 c = sym (rw (
   le-ltb _ _ (c .before .before .before .before .if1 .left),
   ne-eqb _ _ (c .before .before .before .if2 .left),
   ne-eqb _ _
@@ -42,15 +42,13 @@ returns-6 : tie.Need-returns-6
 returns-6 c =
     let b5 = c .before .before .before .before .before in
     let b6 = b5 .before in
-    sym (simp (
+    sym (rw (
       le-ltb _ _ (b5 .if1 .left),
       ne-eqb _ _ (c .before .before .before .before .if2 .left),
-      ne-eqb _ _
-          (c .before .before .before .if3 .left),
+      ne-eqb _ _ (c .before .before .before .if3 .left),
       le-ltb _ _ (c .before .before .if4 .left),
       ne-eqb _ _ (c .before .if5 .left),
-      lt-ltb _ _
-          (c .if6 .taken),
+      lt-ltb _ _ (c .if6 .taken),
     )) ∙ body-by (b6 .args .b)
 
 returns-7 : tie.Need-returns-7
@@ -58,7 +56,7 @@ returns-7 c =
     let b5 = c .before .before .before .before .before in
     let b6 = b5 .before in
     let b7 = b6 .before in
-    sym (simp (
+    sym (rw (
       le-ltb _ _ (b6 .if1 .left),
       ne-eqb _ _ (b5 .if2 .left),
       ne-eqb _ _ (c .before .before .before .before .if3 .left),
@@ -76,7 +74,7 @@ returns-8 c =
     let b6 = b5 .before in
     let b7 = b6 .before in
     let b8 = b7 .before in
-    sym (simp (
+    sym (rw (
       le-ltb _ _ (b7 .if1 .left),
       ne-eqb _ _ (b6 .if2 .left),
       ne-eqb _ _ (b5 .if3 .left),
@@ -95,7 +93,7 @@ returns-9 c =
     let b7 = b6 .before in
     let b8 = b7 .before in
     let b9 = b8 .before in
-    sym (simp (
+    sym (rw (
       le-ltb _ _ (b8 .if1 .left),
       ne-eqb _ _ (b7 .if2 .left),
       ne-eqb _ _ (b6 .if3 .left),
@@ -115,7 +113,7 @@ returns-10 c =
     let b7 = b6 .before in
     let b8 = b7 .before in
     let b9 = b8 .before in
-    sym (simp (
+    sym (rw (
       le-ltb _ _ (b8 .if1 .left),
       ne-eqb _ _ (b7 .if2 .left),
       ne-eqb _ _ (b6 .if3 .left),

@@ -1,5 +1,5 @@
 -- Made by proofs.py from answers/classed.txt: change that file, not this one.
--- answers fa181ad1d157 proof 0c5abf9d8860
+-- answers f9d8f9c196f6 proof a1c38b5a6e82
 use native.Mathlib.Omega.{arith}
 use mathlib.Core.Path.{sym, _∙_}
 use denote.Ref.{now}
@@ -107,14 +107,14 @@ same-length c = search needs
 
 returns : tie.Need-returns
 unfolding classed
-returns c = sym (simp (sym (c .before .row-used .ensures) ∙ c .if1 .taken))
+returns c = sym (rw (sym (c .before .row-used .ensures) ∙ c .if1 .taken))
 
 lost-requires : tie.Need-lost-requires
 lost-requires c κs = search needs
 
 returns-2 : tie.Need-returns-2
 unfolding classed
-returns-2 c = sym (simp (sym (c .before .before .row-used .ensures) ∙ c .before .if1 .left, stops Unit (c .lost .ensures)))
+returns-2 c = sym (rw (sym (c .before .before .row-used .ensures) ∙ c .before .if1 .left, stops Unit (c .lost .ensures)))
 
 pub classed-spec : {M : Type 1} → statement M
 classed-spec =

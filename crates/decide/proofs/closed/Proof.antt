@@ -1,5 +1,5 @@
 -- Made by proofs.py from answers/closed.txt: change that file, not this one.
--- answers 23ec05a54818 proof 3a51f95e4dc1
+-- answers 2856c90e1abe proof 0720571178b5
 use native.Mathlib.Omega.{arith}
 use mathlib.Core.Path.{sym, _∙_}
 use denote.Ref.{now}
@@ -51,14 +51,14 @@ same-length c = search needs
 
 returns : tie.Need-returns
 unfolding closed
-returns c = sym (simp (sym (c .before .row-used .ensures) ∙ c .if1 .taken))
+returns c = sym (rw (sym (c .before .row-used .ensures) ∙ c .if1 .taken))
 
 lost-requires : tie.Need-lost-requires
 lost-requires c κs = search needs
 
 returns-2 : tie.Need-returns-2
 unfolding closed
-returns-2 c = sym (simp (sym (c .before .before .row-used .ensures) ∙ c .before .if1 .left, stops Unit (c .lost .ensures)))
+returns-2 c = sym (rw (sym (c .before .before .row-used .ensures) ∙ c .before .if1 .left, stops Unit (c .lost .ensures)))
 
 pub closed-spec : {M : Type 1} → statement M
 closed-spec =

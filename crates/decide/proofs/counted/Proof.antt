@@ -1,5 +1,5 @@
 -- Made by proofs.py from answers/counted.txt: change that file, not this one.
--- answers 3bf455f6d9a7 proof d6d437683bf1
+-- answers f4d212e26ad4 proof 2cec16a2eadd
 use native.Mathlib.Omega.{arith}
 use mathlib.Core.Path.{sym, _∙_}
 use Prim.Native.Nat.{_+_, _*_}
@@ -23,7 +23,7 @@ lost-requires c κs = search needs
 
 returns : tie.Need-returns
 unfolding counted
-returns c = sym (simp (limit-past _ (c .before .if1 .taken), stops Unit (c .lost .ensures)))
+returns c = sym (rw (limit-past _ (c .before .if1 .taken), stops Unit (c .lost .ensures)))
 
 row-used-requires : tie.Need-row-used-requires
 row-used-requires c κs = search needs
@@ -34,7 +34,7 @@ lost-requires-2 c κs = search needs
 returns-2 : tie.Need-returns-2
 unfolding counted
 returns-2 c =
-    sym (simp (
+    sym (rw (
       limit-ahead _ (c .before .before .before .if1 .left),
       sym (c .before .before .row-used .ensures) ∙ not-true _ (c .before .if2 .taken),
       stops Unit (c .lost2 .ensures),
@@ -57,7 +57,7 @@ sub-if3 c = omega (
 returns-3 : tie.Need-returns-3
 unfolding counted
 returns-3 c =
-    sym (simp (
+    sym (rw (
       limit-ahead _ (c .before .before .before .if1 .left),
       sym (c .before .before .row-used .ensures) ∙ not-false _ (c .before .if2 .left),
       set-out (now (c .before .before .before .before .before .args .rows)) (c .before .before .before .before .before .args .row * 12 +
@@ -105,7 +105,7 @@ same-length c = search needs
 
 returns-4 : tie.Need-returns-4
 unfolding counted
-returns-4 c = sym (simp (
+returns-4 c = sym (rw (
   limit-ahead _ (c .before .before .before .if1 .left),
   sym (c .before .before .row-used .ensures) ∙ not-false _
       (c .before .if2 .left),

@@ -1,5 +1,5 @@
 -- Made by proofs.py from answers/date_end.txt: change that file, not this one.
--- answers 23ae8e8dc690 proof 44dbd3ac6251
+-- answers 382330b9a778 proof 1da1d0dddde6
 use mathlib.Core.Path.{sym, _∙_}
 use borrow.Author.Tests.{not-true, not-false}
 use Rattle.format.specs.Decide.{dateEnd}
@@ -23,7 +23,7 @@ lost-requires c κs = search needs
 
 returns : tie.Need-returns
 unfolding dateEnd
-returns c = sym (simp (sym (c .before .before .row-used .ensures) ∙ not-true _ (c .before .if1 .taken), stops Unit (c .lost .ensures)))
+returns c = sym (rw (sym (c .before .before .row-used .ensures) ∙ not-true _ (c .before .if1 .taken), stops Unit (c .lost .ensures)))
 
 date-millis-requires : tie.Need-date-millis-requires
 date-millis-requires c κs = search needs
@@ -50,7 +50,7 @@ returns-2 c =
     let b7 = b5 .before .before in
     let b8 = b7 .before in
     let b9 = b8 .before in
-    sym (simp (
+    sym (rw (
       sym (b9 .row-used .ensures) ∙ not-false _ (b8 .if1 .left),
       sym (b7 .date-millis .ensures),
       b5 .date .given .1,
@@ -61,7 +61,7 @@ returns-2 c =
 returns-3 : tie.Need-returns-3
 unfolding dateEnd
 returns-3 c =
-    sym (simp (
+    sym (rw (
       sym (c .before .before .before .before .before .row-used .ensures) ∙ not-false _ (c .before .before .before .before .if1 .left),
       sym
           (c .before .before .before .date-millis .ensures),

@@ -1,5 +1,5 @@
 -- Made by proofs.py from answers/entered.txt: change that file, not this one.
--- answers e47c4262104e proof 18f9e82b8b51
+-- answers ff5d30fe2ebd proof d9afe4952681
 use mathlib.Core.Path.{sym}
 use borrow.Author.Tests.{le-leb, lt-leb, lt-ltb, le-ltb}
 use Rattle.format.specs.Decide.{entered}
@@ -17,21 +17,21 @@ lost-requires c κs = search needs
 
 returns : tie.Need-returns
 unfolding entered
-returns c = sym (simp (le-leb _ _ (c .before .if1 .taken), stops Unit (c .lost .ensures)))
+returns c = sym (rw (le-leb _ _ (c .before .if1 .taken), stops Unit (c .lost .ensures)))
 
 lost-requires-2 : tie.Need-lost-requires-2
 lost-requires-2 c κs = search needs
 
 returns-2 : tie.Need-returns-2
 unfolding entered
-returns-2 c = sym (simp (lt-leb _ _ (c .before .before .if1 .left), lt-ltb _ _ (c .before .if2 .taken), stops Unit (c .lost2 .ensures)))
+returns-2 c = sym (rw (lt-leb _ _ (c .before .before .if1 .left), lt-ltb _ _ (c .before .if2 .taken), stops Unit (c .lost2 .ensures)))
 
 refuse-requires : tie.Need-refuse-requires
 refuse-requires c κs = search needs
 
 returns-3 : tie.Need-returns-3
 unfolding entered
-returns-3 c = sym (simp (
+returns-3 c = sym (rw (
   lt-leb _ _ (c .before .before .before .if1 .left),
   le-ltb _ _ (c .before .before .if2 .left),
   le-leb _ _
@@ -53,7 +53,7 @@ same-length c = search needs
 
 returns-4 : tie.Need-returns-4
 unfolding entered
-returns-4 c = sym (simp (lt-leb _ _ (c .before .before .if1 .left), le-ltb _ _ (c .before .if2 .left), lt-leb _ _ (c .if3 .left)))
+returns-4 c = sym (rw (lt-leb _ _ (c .before .before .if1 .left), le-ltb _ _ (c .before .if2 .left), lt-leb _ _ (c .if3 .left)))
 
 pub entered-spec : {M : Type 1} → statement M
 entered-spec =

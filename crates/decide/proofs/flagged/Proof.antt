@@ -1,5 +1,5 @@
 -- Made by proofs.py from answers/flagged.txt: change that file, not this one.
--- answers 3d8e1217226b proof 6ed5433ce904
+-- answers bcfda44e5f4d proof dc0d6f8be594
 use native.Mathlib.Omega.{arith}
 use mathlib.Core.Path.{sym, _∙_}
 use denote.Ref.{now}
@@ -51,14 +51,14 @@ same-length c = search needs
 
 returns : tie.Need-returns
 unfolding flagged
-returns c = sym (simp (sym (c .before .row-used .ensures) ∙ c .if1 .taken))
+returns c = sym (rw (sym (c .before .row-used .ensures) ∙ c .if1 .taken))
 
 lost-requires : tie.Need-lost-requires
 lost-requires c κs = search needs
 
 returns-2 : tie.Need-returns-2
 unfolding flagged
-returns-2 c = sym (simp (sym (c .before .before .row-used .ensures) ∙ c .before .if1 .left, stops Unit (c .lost .ensures)))
+returns-2 c = sym (rw (sym (c .before .before .row-used .ensures) ∙ c .before .if1 .left, stops Unit (c .lost .ensures)))
 
 pub flagged-spec : {M : Type 1} → statement M
 flagged-spec =

@@ -1,5 +1,5 @@
 -- Made by proofs.py from answers/grown.txt: change that file, not this one.
--- answers 17d87cd7eed3 proof 5edee88b64e2
+-- answers cc3980b0b58e proof c6dcd4493bb3
 use native.Mathlib.Omega.{arith}
 use mathlib.Core.Path.{sym, _∙_}
 use denote.Ref.{now}
@@ -67,7 +67,7 @@ same-length c = search needs
 
 returns : tie.Need-returns
 unfolding grown
-returns c = sym (simp (
+returns c = sym (rw (
   sym (c .before .before .before .row-used .ensures) ∙ c .before .before .if1 .taken,
   c .before .without .ensures,
   c .width-of .ensures,
@@ -78,7 +78,7 @@ lost-requires c κs = search needs
 
 returns-2 : tie.Need-returns-2
 unfolding grown
-returns-2 c = sym (simp (sym (c .before .before .row-used .ensures) ∙ c .before .if1 .left, stops Unit (c .lost .ensures)))
+returns-2 c = sym (rw (sym (c .before .before .row-used .ensures) ∙ c .before .if1 .left, stops Unit (c .lost .ensures)))
 
 pub grown-spec : {M : Type 1} → statement M
 grown-spec =

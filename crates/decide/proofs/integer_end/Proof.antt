@@ -1,5 +1,5 @@
 -- Made by proofs.py from answers/integer_end.txt: change that file, not this one.
--- answers 942071aa63d8 proof bcd034d94025
+-- answers a560fe30798c proof ed2b147db234
 use mathlib.Core.Path.{ap, _∙_}
 use Prim.Native.Nat.{ℕ}
 use denote.Ref.{now}
@@ -7,7 +7,7 @@ use mir.Syntax.{w64}
 use mir.ValLaws.{toZ-ofZ}
 use Rattle.wire.specs.Sign.{columnOf}
 use Rattle.format.specs.Decide.{numbered, integerEnd}
-use Rattle.decide.specs.Held.{leaving}
+use Rattle.decide.specs.Outcomes.{leaving}
 use borrow.Author.Needs.{needs}
 use Rattle.decide.proofs.integer_end.Statement.{statement}
 use Rattle.decide.proofs.integer_end.Tie as tie

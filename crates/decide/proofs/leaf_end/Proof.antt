@@ -1,5 +1,5 @@
 -- Made by proofs.py from answers/leaf_end.txt: change that file, not this one.
--- answers 2974ab4d942e proof 3055ea14804d
+-- answers e87becd39249 proof e6fde6b4ec3b
 use mathlib.Core.Path.{sym}
 use borrow.Author.Tests.{lt-ltb, le-ltb}
 use Rattle.decide.proofs.leaf_end.Statement.{statement}
@@ -8,10 +8,10 @@ use Rattle.decide.proofs.leaf_end.Reads as reads
 use Rattle.decide.proofs.leaf_end.Lts as lts
 
 returns : tie.Need-returns
-returns c = sym (simp (lt-ltb _ _ (c .if1 .taken)))
+returns c = sym (rw (lt-ltb _ _ (c .if1 .taken)))
 
 returns-2 : tie.Need-returns-2
-returns-2 c = sym (simp (le-ltb _ _ (c .if1 .left)))
+returns-2 c = sym (rw (le-ltb _ _ (c .if1 .left)))
 
 pub leaf-end-spec : {M : Type 1} → statement M
 leaf-end-spec =

@@ -1,5 +1,5 @@
 -- Made by proofs.py from answers/marker.txt: change that file, not this one.
--- answers b6e86765581e proof 25b3ae76d44c
+-- answers e4685adf352e proof 1196c9e46bad
 use mathlib.Core.Path.{sym}
 use Prim.Native.Nat.{ℕ}
 use borrow.Author.Tests.{eq-eqb, ne-eqb, le-leb, lt-leb, lt-ltb, le-ltb}
@@ -23,21 +23,21 @@ lost-requires c κs = search needs
 
 returns : tie.Need-returns
 unfolding marker
-returns c = sym (simp (lt-ltb _ _ (c .before .if1 .taken), stops ℕ (c .lost .ensures)))
+returns c = sym (rw (lt-ltb _ _ (c .before .if1 .taken), stops ℕ (c .lost .ensures)))
 
 refuse-requires : tie.Need-refuse-requires
 refuse-requires c κs = search needs
 
 returns-2 : tie.Need-returns-2
 unfolding marker
-returns-2 c = sym (simp (le-ltb _ _ (c .before .before .if1 .left), lt-ltb _ _ (c .before .if2 .taken), stops ℕ (c .refuse .ensures)))
+returns-2 c = sym (rw (le-ltb _ _ (c .before .before .if1 .left), lt-ltb _ _ (c .before .if2 .taken), stops ℕ (c .refuse .ensures)))
 
 refuse-requires-2 : tie.Need-refuse-requires-2
 refuse-requires-2 c κs = search needs
 
 returns-3 : tie.Need-returns-3
 unfolding marker
-returns-3 c = sym (simp (
+returns-3 c = sym (rw (
   le-ltb _ _ (c .before .before .before .if1 .left),
   le-ltb _ _ (c .before .before .if2 .left),
   eq-eqb _ _
@@ -51,7 +51,7 @@ refuse-requires-3 c κs = search needs
 returns-4 : tie.Need-returns-4
 unfolding marker
 returns-4 c =
-    sym (simp (
+    sym (rw (
       le-ltb _ _ (c .before .before .before .before .if1 .left),
       le-ltb _ _ (c .before .before .before .if2 .left),
       ne-eqb _ _
@@ -86,7 +86,7 @@ returns-5 c =
     let b8 = b7 .before in
     let b9 = b8 .before in
     let b10 = b9 .before in
-    sym (simp (
+    sym (rw (
       le-ltb _ _ (b10 .if1 .left),
       le-ltb _ _ (b9 .if2 .left),
       ne-eqb _ _ (b8 .if3 .left),

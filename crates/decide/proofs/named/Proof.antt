@@ -1,5 +1,5 @@
 -- Made by proofs.py from answers/named.txt: change that file, not this one.
--- answers 6ce7be4abc0c proof e00f1008398d
+-- answers 2d389dab505f proof 1d79ad7f5461
 use mathlib.Core.Path.{sym}
 use borrow.Author.Tests.{le-leb, lt-leb, lt-ltb, le-ltb}
 use Rattle.rows.specs.declared.Span.{Span}
@@ -19,14 +19,14 @@ lost-requires c κs = search needs
 
 returns : tie.Need-returns
 unfolding named
-returns c = sym (simp (lt-ltb _ _ (c .before .if1 .taken), stops Span (c .lost .ensures)))
+returns c = sym (rw (lt-ltb _ _ (c .before .if1 .taken), stops Span (c .lost .ensures)))
 
 refuse-requires : tie.Need-refuse-requires
 refuse-requires c κs = search needs
 
 returns-2 : tie.Need-returns-2
 unfolding named
-returns-2 c = sym (simp (le-ltb _ _ (c .before .before .if1 .left), le-leb _ _ (c .before .if2 .taken), stops Span (c .refuse .ensures)))
+returns-2 c = sym (rw (le-ltb _ _ (c .before .before .if1 .left), le-leb _ _ (c .before .if2 .taken), stops Span (c .refuse .ensures)))
 
 put-span-requires : tie.Need-put-span-requires
 put-span-requires c κs = search needs
@@ -39,7 +39,7 @@ same-length c = search needs
 
 returns-3 : tie.Need-returns-3
 unfolding named
-returns-3 c = sym (simp (
+returns-3 c = sym (rw (
   le-ltb _ _ (c .before .before .before .before .before .if1 .left),
   lt-leb _ _ (c .before .before .before .before .if2 .left),
   c .before .before .put-span .ensures,

@@ -1,5 +1,5 @@
 -- Made by proofs.py from answers/numbered.txt: change that file, not this one.
--- answers e1232826d5ce proof 2efa8df309df
+-- answers 47966cb60947 proof 6819456bbaf6
 use native.Mathlib.Omega.{arith}
 use mathlib.Core.Path.{sym, _∙_}
 use denote.Ref.{now}
@@ -79,14 +79,14 @@ same-length c = search needs
 
 returns : tie.Need-returns
 unfolding numbered
-returns c = sym (simp (sym (c .before .row-used .ensures) ∙ c .if1 .taken))
+returns c = sym (rw (sym (c .before .row-used .ensures) ∙ c .if1 .taken))
 
 lost-requires : tie.Need-lost-requires
 lost-requires c κs = search needs
 
 returns-2 : tie.Need-returns-2
 unfolding numbered
-returns-2 c = sym (simp (sym (c .before .before .row-used .ensures) ∙ c .before .if1 .left, stops Unit (c .lost .ensures)))
+returns-2 c = sym (rw (sym (c .before .before .row-used .ensures) ∙ c .before .if1 .left, stops Unit (c .lost .ensures)))
 
 pub numbered-spec : {M : Type 1} → statement M
 numbered-spec =

@@ -1,5 +1,5 @@
 -- Made by proofs.py from answers/object_class.txt: change that file, not this one.
--- answers 224817072676 proof 7336c7978d24
+-- answers 0d85e5c0fe8e proof 4dfb3fad449d
 use mathlib.Core.Path.{sym}
 use borrow.Author.Tests.{eq-eqb, ne-eqb}
 use Rattle.format.specs.Decide.{objectClass}
@@ -18,7 +18,7 @@ same-length c = search needs
 
 returns : tie.Need-returns
 unfolding objectClass
-returns c = sym (simp (eq-eqb _ _ (c .before .before .before .before .if1 .taken), sym (c .before .before .classed .ensures)))
+returns c = sym (rw (eq-eqb _ _ (c .before .before .before .before .if1 .taken), sym (c .before .before .classed .ensures)))
 
 classed-requires-2 : tie.Need-classed-requires-2
 classed-requires-2 c κs = search needs
@@ -28,7 +28,7 @@ same-length-2 c = search needs
 
 returns-2 : tie.Need-returns-2
 unfolding objectClass
-returns-2 c = sym (simp (ne-eqb _ _ (c .before .before .before .before .if1 .left), sym (c .before .before .classed2 .ensures)))
+returns-2 c = sym (rw (ne-eqb _ _ (c .before .before .before .before .if1 .left), sym (c .before .before .classed2 .ensures)))
 
 pub object-class-spec : {M : Type 1} → statement M
 object-class-spec =

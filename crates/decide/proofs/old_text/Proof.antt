@@ -1,5 +1,5 @@
 -- Made by proofs.py from answers/old_text.txt: change that file, not this one.
--- answers 3305eb6bb6b0 proof dff695fecbf2
+-- answers 5aca0966d22d proof 4d4c7331213f
 use mathlib.Core.Path.{sym, _∙_}
 use borrow.Author.Tests.{le-leb, lt-leb, lt-ltb, le-ltb}
 use Rattle.rows.specs.declared.Span.{Span}
@@ -19,14 +19,14 @@ lost-requires c κs = search needs
 
 returns : tie.Need-returns
 unfolding oldText
-returns c = sym (simp (lt-ltb _ _ (c .before .if1 .taken), stops Span (c .lost .ensures)))
+returns c = sym (rw (lt-ltb _ _ (c .before .if1 .taken), stops Span (c .lost .ensures)))
 
 refuse-requires : tie.Need-refuse-requires
 refuse-requires c κs = search needs
 
 returns-2 : tie.Need-returns-2
 unfolding oldText
-returns-2 c = sym (simp (le-ltb _ _ (c .before .before .before .if1 .left), le-leb _ _ (c .before .if2 .taken), stops Span (c .refuse .ensures)))
+returns-2 c = sym (rw (le-ltb _ _ (c .before .before .before .if1 .left), le-leb _ _ (c .before .if2 .taken), stops Span (c .refuse .ensures)))
 
 mul-begin : tie.Need-mul-begin
 mul-begin c = search needs
@@ -54,7 +54,7 @@ fits-requires c κs = search needs
 
 returns-3 : tie.Need-returns-3
 unfolding oldText
-returns-3 c = sym (simp (
+returns-3 c = sym (rw (
   le-ltb _ _ (c .before .before .before .before .before .before .if1 .left),
   lt-leb _ _
       (c .before .before .before .before .if2 .left),
@@ -69,7 +69,7 @@ unfolding oldText
 returns-4 c =
     let b5 = c .before .before .before .before .before in
     let b7 = b5 .before .before in
-    sym (simp (
+    sym (rw (
       le-ltb _ _ (b7 .if1 .left),
       lt-leb _ _ (b5 .if2 .left),
       sym (c .before .before .fits2 .ensures) ∙ c .before .if3 .left,

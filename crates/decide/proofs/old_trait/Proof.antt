@@ -1,5 +1,5 @@
 -- Made by proofs.py from answers/old_trait.txt: change that file, not this one.
--- answers 1f97296669e6 proof a64240e5cbc8
+-- answers 48499888e3c5 proof cc0a2917b457
 use mathlib.Core.Path.{sym, _∙_}
 use borrow.Author.Tests.{le-leb, lt-leb, lt-ltb, le-ltb}
 use Rattle.rows.specs.declared.Trait.{Trait}
@@ -19,14 +19,14 @@ lost-requires c κs = search needs
 
 returns : tie.Need-returns
 unfolding oldTrait
-returns c = sym (simp (lt-ltb _ _ (c .before .if1 .taken), stops Trait (c .lost .ensures)))
+returns c = sym (rw (lt-ltb _ _ (c .before .if1 .taken), stops Trait (c .lost .ensures)))
 
 refuse-requires : tie.Need-refuse-requires
 refuse-requires c κs = search needs
 
 returns-2 : tie.Need-returns-2
 unfolding oldTrait
-returns-2 c = sym (simp (le-ltb _ _ (c .before .before .before .if1 .left), le-leb _ _ (c .before .if2 .taken), stops Trait (c .refuse .ensures)))
+returns-2 c = sym (rw (le-ltb _ _ (c .before .before .before .if1 .left), le-leb _ _ (c .before .if2 .taken), stops Trait (c .refuse .ensures)))
 
 mul-t5 : tie.Need-mul-t5
 mul-t5 c = search needs
@@ -93,7 +93,7 @@ unfolding oldTrait
 returns-3 c =
     let b7 = c .before .before .before .before .before .before .before in
     let b9 = b7 .before .before in
-    sym (simp (le-ltb _ _ (b9 .if1 .left), lt-leb _ _ (b7 .if2 .left), sym (c .before .trait-holds .ensures) ∙ c .if3 .taken))
+    sym (rw (le-ltb _ _ (b9 .if1 .left), lt-leb _ _ (b7 .if2 .left), sym (c .before .trait-holds .ensures) ∙ c .if3 .taken))
 
 lost-requires-2 : tie.Need-lost-requires-2
 lost-requires-2 c κs = search needs
@@ -103,7 +103,7 @@ unfolding oldTrait
 returns-4 c =
     let b8 = c .before .before .before .before .before .before .before .before in
     let b10 = b8 .before .before in
-    sym (simp (
+    sym (rw (
       le-ltb _ _ (b10 .if1 .left),
       lt-leb _ _ (b8 .if2 .left),
       sym (c .before .before .trait-holds .ensures) ∙ c .before .if3 .left,

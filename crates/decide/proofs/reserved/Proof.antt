@@ -1,5 +1,5 @@
 -- Made by proofs.py from answers/reserved.txt: change that file, not this one.
--- answers d5abd65deea5 proof a4a8800384dd
+-- answers c39abbc63958 proof d2fa93a6cebc
 use native.Mathlib.Omega.{arith}
 use mathlib.Core.Path.{sym}
 use borrow.Author.Tests.{lt-ltb, le-ltb}
@@ -21,7 +21,7 @@ lost-requires c κs = search needs
 
 returns : tie.Need-returns
 unfolding reserved
-returns c = λ B l. sym (simp (l, lt-ltb _ _ (c .before .if1 .taken), stops Span (c .lost .ensures)))
+returns c = λ B l. sym (rw (l, lt-ltb _ _ (c .before .if1 .taken), stops Span (c .lost .ensures)))
 
 fits-requires : tie.Need-fits-requires
 fits-requires c κs = search needs
@@ -35,7 +35,7 @@ add-after c = omega (
 
 returns-2 : tie.Need-returns-2
 unfolding reserved
-returns-2 c = λ B l. sym (simp (
+returns-2 c = λ B l. sym (rw (
   l,
   le-ltb _ _ (c .before .before .if1 .left),
   fits-room (c .before .before .before .args .c .store)
@@ -47,7 +47,7 @@ refuse-requires c κs = search needs
 
 returns-3 : tie.Need-returns-3
 unfolding reserved
-returns-3 c = λ B l. sym (simp (
+returns-3 c = λ B l. sym (rw (
   l,
   le-ltb _ _ (c .before .before .before .if1 .left),
   fits-full (c .before .before .before .before .args .c .store)

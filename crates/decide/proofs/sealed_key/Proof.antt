@@ -1,5 +1,5 @@
 -- Made by proofs.py from answers/sealed_key.txt: change that file, not this one.
--- answers edf30920330f proof 593efd04a0e9
+-- answers 69535925f660 proof 56423abca1a3
 use mathlib.Core.Path.{sym, _∙_}
 use borrow.Author.Tests.{le-leb, lt-leb, lt-ltb, le-ltb}
 use Rattle.rows.specs.declared.Key.{Key}
@@ -18,14 +18,14 @@ lost-requires c κs = search needs
 
 returns : tie.Need-returns
 unfolding sealedKey
-returns c = sym (simp (lt-ltb _ _ (c .before .if1 .taken), stops Key (c .lost .ensures)))
+returns c = sym (rw (lt-ltb _ _ (c .before .if1 .taken), stops Key (c .lost .ensures)))
 
 lost-requires-2 : tie.Need-lost-requires-2
 lost-requires-2 c κs = search needs
 
 returns-2 : tie.Need-returns-2
 unfolding sealedKey
-returns-2 c = sym (simp (le-ltb _ _ (c .before .before .before .if1 .left), le-leb _ _ (c .before .if2 .taken), stops Key (c .lost2 .ensures)))
+returns-2 c = sym (rw (le-ltb _ _ (c .before .before .before .if1 .left), le-leb _ _ (c .before .if2 .taken), stops Key (c .lost2 .ensures)))
 
 mul-begin : tie.Need-mul-begin
 mul-begin c = search needs
@@ -53,7 +53,7 @@ fits-requires c κs = search needs
 
 returns-3 : tie.Need-returns-3
 unfolding sealedKey
-returns-3 c = sym (simp (
+returns-3 c = sym (rw (
   le-ltb _ _ (c .before .before .before .before .before .before .if1 .left),
   lt-leb _ _
       (c .before .before .before .before .if2 .left),
@@ -68,7 +68,7 @@ unfolding sealedKey
 returns-4 c =
     let b5 = c .before .before .before .before .before in
     let b7 = b5 .before .before in
-    sym (simp (
+    sym (rw (
       le-ltb _ _ (b7 .if1 .left),
       lt-leb _ _ (b5 .if2 .left),
       sym (c .before .before .fits2 .ensures) ∙ c .before .if3 .left,

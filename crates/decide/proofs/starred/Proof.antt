@@ -1,5 +1,5 @@
 -- Made by proofs.py from answers/starred.txt: change that file, not this one.
--- answers 274846f6e90b proof cfc57d8bb9a2
+-- answers ac9f432ec63d proof bc5020052def
 use native.Mathlib.Omega.{arith}
 use mathlib.Core.Path.{sym, _∙_}
 use borrow.Author.Tests.{eq-eqb, ne-eqb, lt-ltb, le-ltb}
@@ -17,14 +17,14 @@ use Rattle.wire.proofs.fits.Reads as fits-reads
 
 returns : tie.Need-returns
 unfolding starred
-returns c = sym (simp (ne-eqb _ _ (c .if1 .taken)))
+returns c = sym (rw (ne-eqb _ _ (c .if1 .taken)))
 
 lost-requires : tie.Need-lost-requires
 lost-requires c κs = search needs
 
 returns-2 : tie.Need-returns-2
 unfolding starred
-returns-2 c = sym (simp (eq-eqb _ _ (c .before .before .before .if1 .left), lt-ltb _ _ (c .before .if2 .taken), stops Bool (c .lost .ensures)))
+returns-2 c = sym (rw (eq-eqb _ _ (c .before .before .before .if1 .left), lt-ltb _ _ (c .before .if2 .taken), stops Bool (c .lost .ensures)))
 
 fits-requires : tie.Need-fits-requires
 fits-requires c κs = search needs
@@ -39,7 +39,7 @@ shared-slice-read-t10 c = omega (
 
 returns-3 : tie.Need-returns-3
 unfolding starred
-returns-3 c = sym (simp (
+returns-3 c = sym (rw (
   eq-eqb _ _ (c .before .before .before .before .before .if1 .left),
   le-ltb _ _ (c .before .before .before .if2 .left),
   sym
@@ -51,7 +51,7 @@ lost-requires-2 c κs = search needs
 
 returns-4 : tie.Need-returns-4
 unfolding starred
-returns-4 c = sym (simp (
+returns-4 c = sym (rw (
   eq-eqb _ _ (c .before .before .before .before .before .if1 .left),
   le-ltb _ _ (c .before .before .before .if2 .left),
   sym

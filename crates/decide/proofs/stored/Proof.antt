@@ -1,5 +1,5 @@
 -- Made by proofs.py from answers/stored.txt: change that file, not this one.
--- answers 14959e87a51c proof 8aa818d3aba2
+-- answers 0a05d932b804 proof ab1a5d291c4c
 use native.Mathlib.Omega.{arith}
 use mathlib.Core.Path.{sym, _∙_}
 use borrow.Author.Tests.{le-leb, lt-leb, lt-ltb, le-ltb}
@@ -19,14 +19,14 @@ lost-requires c κs = search needs
 
 returns : tie.Need-returns
 unfolding stored
-returns c = sym (simp (lt-ltb _ _ (c .before .if1 .taken), stops Unit (c .lost .ensures)))
+returns c = sym (rw (lt-ltb _ _ (c .before .if1 .taken), stops Unit (c .lost .ensures)))
 
 lost-requires-2 : tie.Need-lost-requires-2
 lost-requires-2 c κs = search needs
 
 returns-2 : tie.Need-returns-2
 unfolding stored
-returns-2 c = sym (simp (le-ltb _ _ (c .before .before .before .if1 .left), le-leb _ _ (c .before .if2 .taken), stops Unit (c .lost2 .ensures)))
+returns-2 c = sym (rw (le-ltb _ _ (c .before .before .before .if1 .left), le-leb _ _ (c .before .if2 .taken), stops Unit (c .lost2 .ensures)))
 
 fits-requires : tie.Need-fits-requires
 fits-requires c κs = search needs
@@ -60,7 +60,7 @@ same-length c = search needs
 
 returns-3 : tie.Need-returns-3
 unfolding stored
-returns-3 c = sym (simp (
+returns-3 c = sym (rw (
   le-ltb _ _ (c .before .before .before .before .before .before .if1 .left),
   lt-leb _ _
       (c .before .before .before .before .if2 .left),
@@ -73,7 +73,7 @@ lost-requires-3 c κs = search needs
 returns-4 : tie.Need-returns-4
 unfolding stored
 returns-4 c =
-    sym (simp (
+    sym (rw (
       le-ltb _ _ (c .before .before .before .before .before .if1 .left),
       lt-leb _ _ (c .before .before .before .if2 .left),
       sym

@@ -1,5 +1,5 @@
 -- Made by proofs.py from answers/text_end.txt: change that file, not this one.
--- answers 5658e5151832 proof 4fd19457a4c1
+-- answers ae87a97a5e43 proof f3d04fcdb25a
 use mathlib.Core.Path.{sym}
 use borrow.Author.Tests.{le-leb, lt-leb, lt-ltb, le-ltb, not-true, not-false}
 use Rattle.rows.specs.declared.Span.{Span}
@@ -19,14 +19,14 @@ lost-requires c κs = search needs
 
 returns : tie.Need-returns
 unfolding textEnd
-returns c = sym (simp (lt-ltb _ _ (c .before .if1 .taken), stops Span (c .lost .ensures)))
+returns c = sym (rw (lt-ltb _ _ (c .before .if1 .taken), stops Span (c .lost .ensures)))
 
 refuse-requires : tie.Need-refuse-requires
 refuse-requires c κs = search needs
 
 returns-2 : tie.Need-returns-2
 unfolding textEnd
-returns-2 c = sym (simp (
+returns-2 c = sym (rw (
   le-ltb _ _ (c .before .before .if1 .left),
   not-true (c .before .before .before .before .args .valid) (c .before .if2 .taken),
   stops Span (c .refuse .ensures),
@@ -38,7 +38,7 @@ refuse-requires-2 c κs = search needs
 returns-3 : tie.Need-returns-3
 unfolding textEnd
 returns-3 c =
-    sym (simp (
+    sym (rw (
       le-ltb _ _ (c .before .before .before .if1 .left),
       not-false (c .before .before .before .before .before .args .valid)
           (c .before .before .if2 .left),
@@ -61,7 +61,7 @@ returns-4 c =
     let b5 = c .before .before .before .before .before in
     let b6 = b5 .before in
     let b8 = b6 .before .before in
-    sym (simp (
+    sym (rw (
       le-ltb _ _ (b6 .if1 .left),
       not-false (b8 .args .valid) (b5 .if2 .left),
       lt-leb _ _ (c .before .before .before .before .if3 .left),

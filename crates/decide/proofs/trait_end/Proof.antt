@@ -1,5 +1,5 @@
 -- Made by proofs.py from answers/trait_end.txt: change that file, not this one.
--- answers ed2b2ab6055e proof f74a836b6042
+-- answers 8f5441530e14 proof f6cc4fbad854
 use native.Mathlib.Omega.{arith}
 use mathlib.Core.Path.{sym, _∙_}
 use Prim.Native.Nat.{_*_}
@@ -23,7 +23,7 @@ lost-requires c κs = search needs
 
 returns : tie.Need-returns
 unfolding traitEnd
-returns c = sym (simp (lt-ltb _ _ (c .before .if1 .taken), stops Unit (c .lost .ensures)))
+returns c = sym (rw (lt-ltb _ _ (c .before .if1 .taken), stops Unit (c .lost .ensures)))
 
 trait-holds-requires : tie.Need-trait-holds-requires
 trait-holds-requires c κs = search needs
@@ -33,7 +33,7 @@ lost-requires-2 c κs = search needs
 
 returns-2 : tie.Need-returns-2
 unfolding traitEnd
-returns-2 c = sym (simp (
+returns-2 c = sym (rw (
   le-ltb _ _ (c .before .before .before .if1 .left),
   sym (c .before .before .trait-holds .ensures) ∙ not-true _
       (c .before .if2 .taken),
@@ -46,7 +46,7 @@ refuse-requires c κs = search needs
 returns-3 : tie.Need-returns-3
 unfolding traitEnd
 returns-3 c =
-    sym (simp (
+    sym (rw (
       le-ltb _ _ (c .before .before .before .before .if1 .left),
       sym (c .before .before .before .trait-holds .ensures) ∙ not-false _
           (c .before .before .if2 .left),
@@ -121,7 +121,7 @@ returns-4 : tie.Need-returns-4
 unfolding traitEnd
 returns-4 c =
     let b5 = c .before .before .before .before .before in
-    sym (simp (
+    sym (rw (
       le-ltb _ _ (c .before .before .before .if1 .left),
       sym (c .before .before .trait-holds .ensures) ∙ not-false _ (c .before .if2 .left),
       lt-leb _ _ (c .if3 .left),

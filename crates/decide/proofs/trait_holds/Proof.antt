@@ -1,5 +1,5 @@
 -- Made by proofs.py from answers/trait_holds.txt: change that file, not this one.
--- answers ac3d186877fc proof ce60a8f632db
+-- answers 27e3799e7aa3 proof 32afd800eeb3
 use mathlib.Core.Path.{sym, _∙_}
 use borrow.Author.Tests.{le-leb, lt-leb, not-true, not-false}
 use Rattle.format.specs.Decide.{traitHolds}
@@ -15,18 +15,18 @@ fits-requires c κs = search needs
 
 returns : tie.Need-returns
 unfolding traitHolds
-returns c = sym (simp (sym (c .before .fits2 .ensures) ∙ not-true _ (c .if1 .taken)))
+returns c = sym (rw (sym (c .before .fits2 .ensures) ∙ not-true _ (c .if1 .taken)))
 
 returns-2 : tie.Need-returns-2
 unfolding traitHolds
-returns-2 c = sym (simp (sym (c .before .before .before .fits2 .ensures) ∙ not-false _ (c .before .before .if1 .left), lt-leb _ _ (c .if2 .taken)))
+returns-2 c = sym (rw (sym (c .before .before .before .fits2 .ensures) ∙ not-false _ (c .before .before .if1 .left), lt-leb _ _ (c .if2 .taken)))
 
 fits-requires-2 : tie.Need-fits-requires-2
 fits-requires-2 c κs = search needs
 
 returns-3 : tie.Need-returns-3
 unfolding traitHolds
-returns-3 c = sym (simp (
+returns-3 c = sym (rw (
   sym (c .before .before .before .before .fits2 .ensures) ∙ not-false _ (c .before .before .before .if1 .left),
   le-leb _ _
       (c .before .if2 .left),

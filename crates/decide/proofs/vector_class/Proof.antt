@@ -1,5 +1,5 @@
 -- Made by proofs.py from answers/vector_class.txt: change that file, not this one.
--- answers 3747a214b667 proof 21c43edbbb00
+-- answers 39dd06ace8c5 proof 99c03bb9b242
 use mathlib.Core.Path.{sym}
 use Rattle.format.specs.Decide.{vectorClass}
 use borrow.Author.Needs.{needs}
@@ -17,7 +17,7 @@ same-length c = search needs
 
 returns : tie.Need-returns
 unfolding vectorClass
-returns c = sym (simp (c .before .before .before .before .if1 .taken, sym (c .before .before .classed .ensures)))
+returns c = sym (rw (c .before .before .before .before .if1 .taken, sym (c .before .before .classed .ensures)))
 
 classed-requires-2 : tie.Need-classed-requires-2
 classed-requires-2 c κs = search needs
@@ -27,7 +27,7 @@ same-length-2 c = search needs
 
 returns-2 : tie.Need-returns-2
 unfolding vectorClass
-returns-2 c = sym (simp (c .before .before .before .before .if1 .left, sym (c .before .before .classed2 .ensures)))
+returns-2 c = sym (rw (c .before .before .before .before .if1 .left, sym (c .before .before .classed2 .ensures)))
 
 pub vector-class-spec : {M : Type 1} → statement M
 vector-class-spec =

@@ -1,5 +1,5 @@
 -- Made by proofs.py from answers/weak.txt: change that file, not this one.
--- answers e0ec3c1aa297 proof 5e3a99caa669
+-- answers eebb864a11ba proof 9ad286d6e662
 use mathlib.Core.Path.{sym}
 use borrow.Author.Tests.{eq-eqb, ne-eqb}
 use Rattle.decide.proofs.weak.Statement.{statement}
@@ -8,10 +8,10 @@ use Rattle.decide.proofs.weak.Reads as reads
 use Rattle.decide.proofs.weak.Lts as lts
 
 returns : tie.Need-returns
-returns c = sym (simp (eq-eqb _ _ (c .if1 .taken)))
+returns c = sym (rw (eq-eqb _ _ (c .if1 .taken)))
 
 returns-2 : tie.Need-returns-2
-returns-2 c = sym (simp (ne-eqb _ _ (c .if1 .left)))
+returns-2 c = sym (rw (ne-eqb _ _ (c .if1 .left)))
 
 pub weak-spec : {M : Type 1} → statement M
 weak-spec =

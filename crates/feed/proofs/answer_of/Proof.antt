@@ -1,5 +1,5 @@
 -- Made by proofs.py from answers/answer_of.txt: change that file, not this one.
--- answers 4286bd061ed3 proof 1ea626e8d0b9
+-- answers 4286bd061ed3 proof 128777493a85
 use mathlib.Core.Path.{sym, _∙_}
 use borrow.Author.Tests.{eq-eqb, ne-eqb}
 use Rattle.format.specs.Numbers.{stateOf}
@@ -9,7 +9,7 @@ use Rattle.feed.proofs.answer_of.Statement.{statement}
 use Rattle.feed.proofs.answer_of.Tie as tie
 use Rattle.feed.proofs.answer_of.Reads as reads
 use Rattle.feed.proofs.answer_of.Lts as lts
-use Rattle.feed.proofs.has_ended.Reads as has-ended-reads
+use Rattle.pieces.proofs.has_ended.Reads as has-ended-reads
 
 returns : tie.Need-returns
 unfolding stateOf

@@ -1,9 +1,9 @@
 -- Made by proofs.py from answers/answered.txt: change that file, not this one.
--- answers c7b51f8c24f8 proof 4dff277b1d3c
+-- answers 041e366ae49b proof 214a1db52b3d
 use mathlib.Core.Path.{ap}
 use Rattle.format.specs.Answers.{fed}
 use Rattle.format.specs.declared.Answer.{Answer}
-use Rattle.feed.specs.Held.{numbers}
+use Rattle.pieces.specs.States.{numbers}
 use borrow.Author.Needs.{needs}
 use Rattle.feed.proofs.answered.Statement.{statement}
 use Rattle.feed.proofs.answered.Tie as tie

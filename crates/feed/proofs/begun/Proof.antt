@@ -1,5 +1,5 @@
 -- Made by proofs.py from answers/begun.txt: change that file, not this one.
--- answers 50d45d602ba0 proof 52f61d68ab6b
+-- answers 50d45d602ba0 proof 7d0177bbac71
 use mathlib.Core.Path.{_∙_}
 use Rattle.rows.specs.Memory.{memory}
 use Rattle.format.specs.Numbers.{lentOf}
@@ -10,10 +10,10 @@ use Rattle.feed.proofs.begun.Tie as tie
 use Rattle.feed.proofs.begun.Reads as reads
 use Rattle.feed.proofs.begun.Lts as lts
 use Rattle.feed.proofs.answered.Reads as answered-reads
-use Rattle.feed.proofs.fresh.Reads as fresh-reads
-use Rattle.feed.proofs.head_after.Reads as head-after-reads
 use Rattle.format.proofs.idle.Reads as idle-reads
+use Rattle.pieces.proofs.head_after.Reads as head-after-reads
 use Rattle.rows.proofs.clear.Reads as clear-reads
+use Rattle.rows.proofs.fresh.Reads as fresh-reads
 use Rattle.rows.proofs.loan_fault.Reads as loan-fault-reads
 
 loan-fault-requires : tie.Need-loan-fault-requires

@@ -1,7 +1,7 @@
 -- Made by proofs.py from answers/end_refusal.txt: change that file, not this one.
--- answers bb400dc40ff7 proof bffb52b4c129
+-- answers e0bd7ae40482 proof eca05dd8ebbf
 use borrow.Author.Tests.{eq-eqb, ne-eqb}
-use Rattle.feed.specs.Held.{endRefusal}
+use Rattle.feed.specs.Calls.{endRefusal}
 use borrow.Author.Needs.{needs}
 use Rattle.feed.proofs.end_refusal.Statement.{statement}
 use Rattle.feed.proofs.end_refusal.Tie as tie

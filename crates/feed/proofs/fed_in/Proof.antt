@@ -1,13 +1,14 @@
 -- Made by proofs.py from answers/fed_in.txt: change that file, not this one.
--- answers 349daf06db5c proof 2608132f0808
+-- answers 7d0cf4cb1322 proof 69c096efb13e
 use Rattle.feed.proofs.Calls.{fed-in}
+use Rattle.pieces.proofs.Drives.{ran-parts}
 use borrow.Author.Needs.{needs}
 use Rattle.feed.proofs.fed_in.Statement.{statement}
 use Rattle.feed.proofs.fed_in.Tie as tie
 use Rattle.feed.proofs.fed_in.Reads as reads
 use Rattle.feed.proofs.fed_in.Lts as lts
 use Rattle.feed.proofs.answer_of.Reads as answer-of-reads
-use Rattle.feed.proofs.run.Reads as run-reads
+use Rattle.pieces.proofs.run.Reads as run-reads
 
 run-requires : tie.Need-run-requires
 run-requires c κs = search needs
@@ -34,8 +35,8 @@ same-length-6 : tie.Need-same-length-6
 same-length-6 c = search needs
 
 returns : tie.Need-returns
-returns c = fed-in _ _ _ _ _ _ _ _
-    (c .before .before .before .before .before .before .before .before .before .before .before .before .before .before .run .ensures)
+returns c = fed-in _ _ _ _ _ _ _ _ (ran-parts
+    (c .before .before .before .before .before .before .before .before .before .before .before .before .before .before .run .ensures))
     (c .answer-of .ensures _ _)
 
 pub fed-in-spec : {M : Type 1} → statement M

@@ -1,5 +1,5 @@
 -- Made by proofs.py from answers/body_fits.txt: change that file, not this one.
--- answers ff8c579820dc proof 109a4d6d9245
+-- answers ca5f54e5e47b proof ecc099bad585
 use mathlib.Core.Path.{sym, _∙_}
 use borrow.Author.Tests.{eq-eqb, ne-eqb, not-true, not-false}
 use Rattle.judge.specs.Pass.{bodyFits}
@@ -32,7 +32,7 @@ mark-fits-requires c κs = search needs
 
 returns : tie.Need-returns
 unfolding bodyFits
-returns c = sym (simp (
+returns c = sym (rw (
   sym (c .before .before .before .before .before .cell .ensures),
   sym (c .before .before .before .before .cell2 .ensures),
   sym
@@ -43,7 +43,7 @@ returns c = sym (simp (
 
 returns-2 : tie.Need-returns-2
 unfolding bodyFits
-returns-2 c = sym (simp (
+returns-2 c = sym (rw (
   sym (c .before .before .before .before .before .cell .ensures),
   sym (c .before .before .before .before .cell2 .ensures),
   sym
@@ -65,7 +65,7 @@ returns-3 c =
     let b6 = b5 .before in
     let b7 = b6 .before in
     let b8 = b7 .before in
-    sym (simp (
+    sym (rw (
       sym (b8 .cell .ensures),
       sym (b7 .cell2 .ensures),
       sym (b6 .cell3 .ensures),
@@ -88,7 +88,7 @@ returns-4 c =
     let b7 = b6 .before in
     let b8 = b7 .before in
     let b9 = b8 .before in
-    sym (simp (
+    sym (rw (
       sym (b9 .cell .ensures),
       sym (b8 .cell2 .ensures),
       sym (b7 .cell3 .ensures),

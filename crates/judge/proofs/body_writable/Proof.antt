@@ -1,5 +1,5 @@
 -- Made by proofs.py from answers/body_writable.txt: change that file, not this one.
--- answers c3a5fdb45e31 proof 8bab028817f0
+-- answers 78f809b0d95d proof 48fdf2045a44
 use mathlib.Core.Path.{sym, _∙_}
 use borrow.Author.Tests.{eq-eqb, ne-eqb, not-true, not-false}
 use Rattle.format.specs.RowTest.{bodyWritable}
@@ -10,10 +10,10 @@ use Rattle.judge.proofs.body_writable.Reads as reads
 use Rattle.judge.proofs.body_writable.Lts as lts
 use Rattle.judge.proofs.cell.Reads as cell-reads
 use Rattle.judge.proofs.has_class.Reads as has-class-reads
-use Rattle.text.proofs.has_text.Reads as has-text-reads
 use Rattle.judge.proofs.is_star.Reads as is-star-reads
 use Rattle.judge.proofs.is_text.Reads as is-text-reads
 use Rattle.text.proofs.clip.Reads as clip-reads
+use Rattle.text.proofs.has_text.Reads as has-text-reads
 
 cell-requires : tie.Need-cell-requires
 cell-requires c κs = search needs
@@ -29,7 +29,7 @@ is-text-requires c κs = search needs
 
 returns : tie.Need-returns
 unfolding bodyWritable
-returns c = sym (simp (
+returns c = sym (rw (
   sym (c .before .before .before .before .cell .ensures),
   sym (c .before .before .before .cell2 .ensures),
   sym
@@ -43,7 +43,7 @@ has-class-requires c κs = search needs
 returns-2 : tie.Need-returns-2
 unfolding bodyWritable
 returns-2 c =
-    sym (simp (
+    sym (rw (
       sym (c .before .before .before .before .before .cell .ensures),
       sym (c .before .before .before .before .cell2 .ensures),
       sym
@@ -61,7 +61,7 @@ returns-3 c =
     let b5 = c .before .before .before .before .before in
     let b6 = b5 .before in
     let b7 = b6 .before in
-    sym (simp (
+    sym (rw (
       sym (b7 .cell .ensures),
       sym (b6 .cell2 .ensures),
       sym (b5 .has-text .ensures) ∙ c .before .before .before .before .if1 .left,
@@ -83,15 +83,14 @@ returns-4 c =
     let b7 = b6 .before in
     let b8 = b7 .before in
     let b9 = b8 .before in
-    sym (simp (
+    sym (rw (
       sym (b9 .cell .ensures),
       sym (b8 .cell2 .ensures),
       sym (b7 .has-text .ensures) ∙ b6 .if1 .left,
-      sym (b5 .has-class .ensures) ∙
-          not-false _ (c .before .before .before .before .if2 .left),
+      sym (b5 .has-class .ensures) ∙ not-false
+          _ (c .before .before .before .before .if2 .left),
       sym (c .before .before .before .cell3 .ensures),
-      eq-eqb _ _
-          (c .before .before .if3 .left),
+      eq-eqb _ _ (c .before .before .if3 .left),
       sym (c .before .is-text2 .ensures) ∙ not-true _ (c .if4 .taken),
     ))
 
@@ -104,12 +103,12 @@ returns-5 c =
     let b8 = b7 .before in
     let b9 = b8 .before in
     let b10 = b9 .before in
-    sym (simp (
+    sym (rw (
       sym (b10 .cell .ensures),
       sym (b9 .cell2 .ensures),
       sym (b8 .has-text .ensures) ∙ b7 .if1 .left,
-      sym (b6 .has-class .ensures) ∙
-          not-false _ (b5 .if2 .left),
+      sym (b6 .has-class .ensures) ∙ not-false
+          _ (b5 .if2 .left),
       sym (c .before .before .before .before .cell3 .ensures),
       eq-eqb _ _ (c .before .before .before .if3 .left),
       sym

@@ -1,5 +1,5 @@
 -- Made by proofs.py from answers/children.txt: change that file, not this one.
--- answers f1f3ad9c16be proof e9725293d121
+-- answers d827445e2492 proof dc6e6cac6115
 use native.Mathlib.Omega.{arith}
 use mathlib.Core.Path.{sym, _∙_}
 use Prim.Native.Nat.{_/_}
@@ -34,7 +34,7 @@ capped-sum-requires c κs = search needs
 
 returns : tie.Need-returns
 unfolding children
-returns c = sym (simp (
+returns c = sym (rw (
   sym (c .before .before .before .before .before .cell .ensures),
   sym (c .before .before .before .before .cell2 .ensures),
   sym
@@ -49,7 +49,7 @@ capped-sum-requires-2 c κs = search needs
 returns-2 : tie.Need-returns-2
 unfolding children
 returns-2 c =
-    c .capped-sum2 .ensures ∙ capped-one _ _ ∙ sym (simp (
+    c .capped-sum2 .ensures ∙ capped-one _ _ ∙ sym (rw (
       sym (c .before .before .before .before .before .cell .ensures),
       sym
           (c .before .before .before .before .cell2 .ensures),
@@ -67,7 +67,7 @@ returns-3 c =
     let b5 = c .before .before .before .before .before in
     let b6 = b5 .before in
     c .capped-sum3 .ensures ∙ capped-pairs _ _
-    ∙ sym (simp (
+    ∙ sym (rw (
       sym (b6 .cell .ensures),
       sym (b5 .cell2 .ensures),
       sym (c .before .before .before .before .has-count2 .ensures) ∙
@@ -80,7 +80,7 @@ returns-4 : tie.Need-returns-4
 unfolding children
 returns-4 c =
     capped-whole (length (now (c .before .before .before .before .before .before .before .args .rows)) / 12) 0 (omega arith)
-    ∙ sym (simp (
+    ∙ sym (rw (
       sym (c .before .before .before .before .before .cell .ensures),
       sym (c .before .before .before .before .cell2 .ensures),
       sym

@@ -1,5 +1,5 @@
 -- Made by proofs.py from answers/has_class.txt: change that file, not this one.
--- answers 99a7d41d4a3f proof ee2dd49a313a
+-- answers 86b3dc214550 proof c1963a775980
 use mathlib.Core.Path.{sym}
 use borrow.Author.Tests.{eq-eqb, ne-eqb}
 use Rattle.judge.proofs.has_class.Statement.{statement}
@@ -8,10 +8,10 @@ use Rattle.judge.proofs.has_class.Reads as reads
 use Rattle.judge.proofs.has_class.Lts as lts
 
 returns : tie.Need-returns
-returns c = sym (simp (eq-eqb _ _ (c .if1 .taken)))
+returns c = sym (rw (eq-eqb _ _ (c .if1 .taken)))
 
 returns-2 : tie.Need-returns-2
-returns-2 c = sym (simp (ne-eqb _ _ (c .if1 .left)))
+returns-2 c = sym (rw (ne-eqb _ _ (c .if1 .left)))
 
 pub has-class-spec : {M : Type 1} → statement M
 has-class-spec =

@@ -1,5 +1,5 @@
 -- Made by proofs.py from answers/is_empty.txt: change that file, not this one.
--- answers a8cec0ad2117 proof b1eb6209ab8b
+-- answers c5d345d3719b proof 784d9860bb1f
 use mathlib.Core.Path.{sym, _∙_}
 use Rattle.judge.specs.Pass.{isEmpty}
 use borrow.Author.Needs.{needs}
@@ -18,11 +18,11 @@ cell-requires c κs = search needs
 
 returns : tie.Need-returns
 unfolding isEmpty
-returns c = sym (simp (sym (c .before .before .is-filled .ensures) ∙ c .before .if1 .taken, sym (c .cell .ensures)))
+returns c = sym (rw (sym (c .before .before .is-filled .ensures) ∙ c .before .if1 .taken, sym (c .cell .ensures)))
 
 returns-2 : tie.Need-returns-2
 unfolding isEmpty
-returns-2 c = sym (simp (sym (c .before .is-filled .ensures) ∙ c .if1 .left))
+returns-2 c = sym (rw (sym (c .before .is-filled .ensures) ∙ c .if1 .left))
 
 pub is-empty-spec : {M : Type 1} → statement M
 is-empty-spec =

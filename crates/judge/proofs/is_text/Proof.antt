@@ -1,5 +1,5 @@
 -- Made by proofs.py from answers/is_text.txt: change that file, not this one.
--- answers 45c777bfd095 proof fd813954349f
+-- answers 0c7e91d0b522 proof dfe3d20452cc
 use mathlib.Core.Path.{sym}
 use Rattle.judge.proofs.Texts.{same-text}
 use borrow.Author.Needs.{needs}
@@ -20,7 +20,7 @@ valid-requires : tie.Need-valid-requires
 valid-requires c κs = search needs
 
 returns-2 : tie.Need-returns-2
-returns-2 c = sym (simp (sym (c .before .clip .ensures), sym (c .valid .ensures)))
+returns-2 c = sym (rw (sym (c .before .clip .ensures), sym (c .valid .ensures)))
 
 pub is-text-spec : {M : Type 1} → statement M
 is-text-spec =

@@ -1,5 +1,5 @@
 -- Made by proofs.py from answers/is_wrong.txt: change that file, not this one.
--- answers 952e801de927 proof 2e196ddde42d
+-- answers a8e68f3f2399 proof b4d5f6534f8e
 use mathlib.Core.Path.{sym}
 use Rattle.judge.specs.Pass.{isWrong}
 use borrow.Author.Needs.{needs}
@@ -18,7 +18,7 @@ mark-of-requires c κs = search needs
 
 returns : tie.Need-returns
 unfolding isWrong
-returns c = sym (simp (sym (c .before .cell .ensures), sym (c .mark-of .ensures)))
+returns c = sym (rw (sym (c .before .cell .ensures), sym (c .mark-of .ensures)))
 
 pub is-wrong-spec : {M : Type 1} → statement M
 is-wrong-spec =

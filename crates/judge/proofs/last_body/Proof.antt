@@ -1,5 +1,5 @@
 -- Made by proofs.py from answers/last_body.txt: change that file, not this one.
--- answers a9248d8835d7 proof b0a8dc909c87
+-- answers 45a79e16d2d8 proof 44f0f90b3098
 use mathlib.Core.Path.{sym, _∙_}
 use borrow.Author.Tests.{eq-eqb, ne-eqb}
 use Rattle.judge.specs.Pass.{lastBody}
@@ -26,7 +26,7 @@ has-text-requires c κs = search needs
 
 returns : tie.Need-returns
 unfolding lastBody
-returns c = sym (simp (
+returns c = sym (rw (
   sym (c .before .before .before .before .cell .ensures),
   sym (c .before .before .before .cell2 .ensures),
   sym
@@ -47,7 +47,7 @@ returns-2 c =
     let b6 = b5 .before in
     let b7 = b6 .before in
     let b8 = b7 .before in
-    sym (simp (
+    sym (rw (
       sym (b8 .cell .ensures),
       sym (b7 .cell2 .ensures),
       sym (b6 .cell3 .ensures),
@@ -66,7 +66,7 @@ returns-3 c =
     let b6 = b5 .before in
     let b7 = b6 .before in
     let b8 = b7 .before in
-    sym (simp (
+    sym (rw (
       sym (b8 .cell .ensures),
       sym (b7 .cell2 .ensures),
       sym (b6 .cell3 .ensures),
@@ -83,7 +83,7 @@ unfolding lastBody
 returns-4 c =
     let b5 = c .before .before .before .before .before in
     let b6 = b5 .before in
-    sym (simp (
+    sym (rw (
       sym (b6 .cell .ensures),
       sym (b5 .cell2 .ensures),
       sym (c .before .before .before .before .cell3 .ensures),

@@ -1,5 +1,5 @@
 -- Made by proofs.py from answers/meant.txt: change that file, not this one.
--- answers c161b160bb55 proof c73ed5daf1ee
+-- answers 643663a94448 proof 9a8dc39deb90
 use mathlib.Core.Path.{sym}
 use borrow.Author.Needs.{needs}
 use Rattle.judge.proofs.meant.Statement.{statement}
@@ -11,7 +11,7 @@ returns : tie.Need-returns
 returns c = search needs
 
 returns-2 : tie.Need-returns-2
-returns-2 c = sym (simp (c .if1 .left))
+returns-2 c = sym (rw (c .if1 .left))
 
 pub meant-spec : {M : Type 1} → statement M
 meant-spec =

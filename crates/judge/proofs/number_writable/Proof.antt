@@ -1,5 +1,5 @@
 -- Made by proofs.py from answers/number_writable.txt: change that file, not this one.
--- answers 2313ecc0eedb proof 798e43e75470
+-- answers 9a749cbccc42 proof 42b6c0174391
 use mathlib.Core.Path.{sym}
 use borrow.Author.Tests.{eq-eqb, ne-eqb}
 use Rattle.format.specs.RowTest.{numberWritable}
@@ -19,15 +19,15 @@ int29-fits-requires c κs = search needs
 
 returns : tie.Need-returns
 unfolding numberWritable
-returns c = sym (simp (sym (c .before .before .cell .ensures), eq-eqb _ _ (c .before .if1 .taken), sym (c .int29-fits .ensures)))
+returns c = sym (rw (sym (c .before .before .cell .ensures), eq-eqb _ _ (c .before .if1 .taken), sym (c .int29-fits .ensures)))
 
 returns-2 : tie.Need-returns-2
 unfolding numberWritable
-returns-2 c = sym (simp (sym (c .before .before .cell .ensures), ne-eqb _ _ (c .before .if1 .left), eq-eqb _ _ (c .if2 .taken)))
+returns-2 c = sym (rw (sym (c .before .before .cell .ensures), ne-eqb _ _ (c .before .if1 .left), eq-eqb _ _ (c .if2 .taken)))
 
 returns-3 : tie.Need-returns-3
 unfolding numberWritable
-returns-3 c = sym (simp (sym (c .before .before .cell .ensures), ne-eqb _ _ (c .before .if1 .left), ne-eqb _ _ (c .if2 .left)))
+returns-3 c = sym (rw (sym (c .before .before .cell .ensures), ne-eqb _ _ (c .before .if1 .left), ne-eqb _ _ (c .if2 .left)))
 
 pub number-writable-spec : {M : Type 1} → statement M
 number-writable-spec =

@@ -1,5 +1,5 @@
 -- Made by proofs.py from answers/row_fits.txt: change that file, not this one.
--- answers 8cc2934a9ccb proof 086b0b17d653
+-- answers fef54e97fa06 proof d75d8147206e
 use mathlib.Core.Path.{sym, _∙_}
 use borrow.Author.Tests.{le-leb, lt-leb, lt-ltb, le-ltb, not-true, not-false}
 use Rattle.judge.specs.Pass.{rowFits}
@@ -18,14 +18,14 @@ cell-requires c κs = search needs
 
 returns : tie.Need-returns
 unfolding rowFits
-returns c = sym (simp (sym (c .before .cell .ensures), le-ltb _ _ (c .if1 .taken)))
+returns c = sym (rw (sym (c .before .cell .ensures), le-ltb _ _ (c .if1 .taken)))
 
 cell-requires-2 : tie.Need-cell-requires-2
 cell-requires-2 c κs = search needs
 
 returns-2 : tie.Need-returns-2
 unfolding rowFits
-returns-2 c = sym (simp (
+returns-2 c = sym (rw (
   sym (c .before .before .before .cell .ensures),
   lt-ltb _ _ (c .before .before .if1 .left),
   sym (c .before .cell2 .ensures),
@@ -34,7 +34,7 @@ returns-2 c = sym (simp (
 
 returns-3 : tie.Need-returns-3
 unfolding rowFits
-returns-3 c = sym (simp (
+returns-3 c = sym (rw (
   sym (c .before .before .before .before .cell .ensures),
   lt-ltb _ _ (c .before .before .before .if1 .left),
   sym
@@ -63,7 +63,7 @@ returns-4 c =
     let b7 = b6 .before in
     let b8 = b7 .before in
     let b9 = b8 .before in
-    sym (simp (
+    sym (rw (
       sym (b9 .cell .ensures),
       lt-ltb _ _ (b8 .if1 .left),
       sym (b7 .cell2 .ensures),
@@ -89,13 +89,12 @@ returns-5 c =
     let b9 = b8 .before in
     let b10 = b9 .before in
     let b11 = b10 .before in
-    sym (simp (
+    sym (rw (
       sym (b11 .cell .ensures),
       lt-ltb _ _ (b10 .if1 .left),
       sym (b9 .cell2 .ensures),
       le-leb _ _ (b8 .if2 .left),
-      le-leb _ _
-          (b7 .if3 .left),
+      le-leb _ _ (b7 .if3 .left),
       sym (b6 .cell3 .ensures),
       sym (b5 .cell4 .ensures),
       sym (c .before .before .before .before .cell5 .ensures),
@@ -120,7 +119,7 @@ returns-6 c =
     let b11 = b10 .before in
     let b12 = b11 .before in
     let b13 = b12 .before in
-    sym (simp (
+    sym (rw (
       sym (b13 .cell .ensures),
       lt-ltb _ _ (b12 .if1 .left),
       sym (b11 .cell2 .ensures),
@@ -153,7 +152,7 @@ returns-7 c =
     let b12 = b11 .before in
     let b13 = b12 .before in
     let b14 = b13 .before in
-    sym (simp (
+    sym (rw (
       sym (b14 .cell .ensures),
       lt-ltb _ _ (b13 .if1 .left),
       sym (b12 .cell2 .ensures),

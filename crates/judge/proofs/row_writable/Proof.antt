@@ -1,5 +1,5 @@
 -- Made by proofs.py from answers/row_writable.txt: change that file, not this one.
--- answers 6857ab350485 proof dd05568de2d7
+-- answers 3c2d5668a49f proof 91493ee2934f
 use mathlib.Core.Path.{sym, _∙_}
 use borrow.Author.Tests.{not-true, not-false}
 use Rattle.judge.specs.Pass.{rowWritable}
@@ -21,17 +21,17 @@ number-writable-requires c κs = search needs
 
 returns : tie.Need-returns
 unfolding rowWritable
-returns c = sym (simp (sym (c .before .before .cell .ensures), sym (c .before .number-writable .ensures) ∙ not-true _ (c .if1 .taken)))
+returns c = sym (rw (sym (c .before .before .cell .ensures), sym (c .before .number-writable .ensures) ∙ not-true _ (c .if1 .taken)))
 
 body-writable-requires : tie.Need-body-writable-requires
 body-writable-requires c κs = search needs
 
 returns-2 : tie.Need-returns-2
 unfolding rowWritable
-returns-2 c = sym (simp (
+returns-2 c = sym (rw (
   sym (c .before .before .before .before .cell .ensures),
-  sym (c .before .before .before .number-writable .ensures) ∙ not-false
-      _ (c .before .before .if1 .left),
+  sym (c .before .before .before .number-writable .ensures) ∙ not-false _
+      (c .before .before .if1 .left),
   sym (c .before .body-writable .ensures) ∙ not-true _ (c .if2 .taken),
 ))
 
@@ -50,7 +50,7 @@ returns-3 c =
     let b5 = c .before .before .before .before .before in
     let b6 = b5 .before in
     let b7 = b6 .before in
-    sym (simp (
+    sym (rw (
       sym (b7 .cell .ensures),
       sym (b6 .number-writable .ensures) ∙ not-false _ (b5 .if1 .left),
       sym

@@ -1,5 +1,5 @@
 -- Made by proofs.py from answers/target_fits.txt: change that file, not this one.
--- answers 9ddac3db276e proof 290aa99af851
+-- answers 3bdc0751d2e5 proof e9e1cbc2b29e
 use mathlib.Core.Path.{sym}
 use borrow.Author.Tests.{le-leb, lt-leb, lt-ltb, le-ltb}
 use Rattle.judge.specs.Pass.{targetFits}
@@ -13,14 +13,14 @@ use Rattle.judge.proofs.is_object.Reads as is-object-reads
 
 returns : tie.Need-returns
 unfolding targetFits
-returns c = sym (simp (le-ltb _ _ (c .if1 .taken)))
+returns c = sym (rw (le-ltb _ _ (c .if1 .taken)))
 
 cell-requires : tie.Need-cell-requires
 cell-requires c κs = search needs
 
 returns-2 : tie.Need-returns-2
 unfolding targetFits
-returns-2 c = sym (simp (lt-ltb _ _ (c .before .before .if1 .left), sym (c .before .cell .ensures), lt-leb _ _ (c .if2 .taken)))
+returns-2 c = sym (rw (lt-ltb _ _ (c .before .before .if1 .left), sym (c .before .cell .ensures), lt-leb _ _ (c .if2 .taken)))
 
 cell-requires-2 : tie.Need-cell-requires-2
 cell-requires-2 c κs = search needs
@@ -30,7 +30,7 @@ is-object-requires c κs = search needs
 
 returns-3 : tie.Need-returns-3
 unfolding targetFits
-returns-3 c = sym (simp (
+returns-3 c = sym (rw (
   lt-ltb _ _ (c .before .before .before .before .if1 .left),
   sym (c .before .before .before .cell .ensures),
   le-leb _ _

@@ -1,5 +1,5 @@
 -- Made by proofs.py from answers/value_fits.txt: change that file, not this one.
--- answers fcb916f26d38 proof 57023f773533
+-- answers 3217e1f0da1d proof 4553182e8107
 use mathlib.Core.Path.{sym, _∙_}
 use borrow.Author.Tests.{eq-eqb, ne-eqb}
 use Rattle.format.specs.RowTest.{valueFits}
@@ -26,11 +26,12 @@ cell-requires-3 c κs = search needs
 
 returns : tie.Need-returns
 unfolding valueFits
-returns c = sym (simp (
+returns c = sym (rw (
   sym (c .before .before .before .cell .ensures),
   sym (c .before .before .cell2 .ensures),
   sym (c .before .cell3 .ensures),
-  eq-eqb _ _ (c .if1 .taken),
+  eq-eqb
+      _ _ (c .if1 .taken),
 ))
 
 int32-fits-requires : tie.Need-int32-fits-requires
@@ -38,7 +39,7 @@ int32-fits-requires c κs = search needs
 
 returns-2 : tie.Need-returns-2
 unfolding valueFits
-returns-2 c = sym (simp (
+returns-2 c = sym (rw (
   sym (c .before .before .before .before .before .cell .ensures),
   sym (c .before .before .before .before .cell2 .ensures),
   sym
@@ -57,7 +58,7 @@ unfolding valueFits
 returns-3 c =
     let b5 = c .before .before .before .before .before in
     let b6 = b5 .before in
-    sym (simp (
+    sym (rw (
       sym (b6 .cell .ensures),
       sym (b5 .cell2 .ensures),
       sym (c .before .before .before .before .cell3 .ensures),
@@ -82,7 +83,7 @@ returns-4 c =
     let b6 = b5 .before in
     let b7 = b6 .before in
     let b8 = b7 .before in
-    sym (simp (
+    sym (rw (
       sym (b8 .cell .ensures),
       sym (b7 .cell2 .ensures),
       sym (b6 .cell3 .ensures),
@@ -106,7 +107,7 @@ returns-5 c =
     let b7 = b6 .before in
     let b8 = b7 .before in
     let b9 = b8 .before in
-    sym (simp (
+    sym (rw (
       sym (b9 .cell .ensures),
       sym (b8 .cell2 .ensures),
       sym (b7 .cell3 .ensures),
@@ -125,7 +126,7 @@ returns-6 c =
     let b6 = b5 .before in
     let b7 = b6 .before in
     let b8 = b7 .before in
-    sym (simp (
+    sym (rw (
       sym (b8 .cell .ensures),
       sym (b7 .cell2 .ensures),
       sym (b6 .cell3 .ensures),

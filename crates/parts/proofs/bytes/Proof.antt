@@ -1,12 +1,12 @@
 -- Made by proofs.py from answers/bytes.txt: change that file, not this one.
--- answers 20728fa391fc proof 58366cf58cb1
+-- answers 940f9f8a555b proof e35cd5db092c
 use mathlib.Core.Path.{refl, ap}
 use mathlib.Core.List.{[]}
-use Rattle.decide.specs.Held.{doneOf, textOf}
+use Rattle.decide.specs.Outcomes.{doneOf, textOf}
 use Rattle.format.specs.Reading.{newOf, filled, ret}
-use Rattle.parts.proofs.Does.{does-closed}
-use Rattle.parts.proofs.Reserves.{room-placed}
-use Rattle.parts.proofs.Then.{then, passed, refused, chosen}
+use Rattle.scan.proofs.Does.{does-closed}
+use Rattle.scan.proofs.Reserves.{room-placed}
+use Rattle.scan.proofs.Then.{then, passed, refused, chosen}
 use borrow.Author.Needs.{needs}
 use Rattle.parts.proofs.bytes.Statement.{statement}
 use Rattle.parts.proofs.bytes.Tie as tie
@@ -14,7 +14,7 @@ use Rattle.parts.proofs.bytes.Reads as reads
 use Rattle.parts.proofs.bytes.Lts as lts
 use Rattle.decide.proofs.closed.Reads as closed-reads
 use Rattle.decide.proofs.no_text.Reads as no-text-reads
-use Rattle.parts.proofs.copied.Reads as copied-reads
+use Rattle.scan.proofs.copied.Reads as copied-reads
 use Rattle.parts.proofs.room.Reads as room-reads
 
 room-requires : tie.Need-room-requires

@@ -1,18 +1,18 @@
 -- Made by proofs.py from answers/date.txt: change that file, not this one.
--- answers 23021c58d1f4 proof 88766240ffa0
+-- answers c2969dbe435c proof 58077d7478db
 use mathlib.Core.Path.{ap}
 use Rattle.format.specs.Reading.{newOf}
-use Rattle.parts.specs.Held.{numberIn}
-use Rattle.parts.proofs.Does.{does-date}
-use Rattle.parts.proofs.Then.{then, refused}
+use Rattle.scan.specs.Reads.{numberIn}
+use Rattle.scan.proofs.Does.{does-date}
+use Rattle.scan.proofs.Then.{then, refused}
 use borrow.Author.Needs.{needs}
 use Rattle.parts.proofs.date.Statement.{statement}
 use Rattle.parts.proofs.date.Tie as tie
 use Rattle.parts.proofs.date.Reads as reads
 use Rattle.parts.proofs.date.Lts as lts
 use Rattle.decide.proofs.date_end.Reads as date-end-reads
-use Rattle.parts.proofs.eight.Reads as eight-reads
-use Rattle.parts.proofs.no_number.Reads as no-number-reads
+use Rattle.scan.proofs.eight.Reads as eight-reads
+use Rattle.scan.proofs.no_number.Reads as no-number-reads
 
 eight-requires : tie.Need-eight-requires
 eight-requires c κs = search needs

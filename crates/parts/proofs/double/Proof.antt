@@ -1,18 +1,18 @@
 -- Made by proofs.py from answers/double.txt: change that file, not this one.
--- answers 9075039ee402 proof d515eb7d1677
+-- answers 6e89f3feab14 proof f82f053feee8
 use mathlib.Core.Path.{ap}
 use Rattle.format.specs.Reading.{marked}
-use Rattle.parts.specs.Held.{numberIn}
-use Rattle.parts.proofs.Does.{does-numbered}
-use Rattle.parts.proofs.Then.{then, refused}
+use Rattle.scan.specs.Reads.{numberIn}
+use Rattle.scan.proofs.Does.{does-numbered}
+use Rattle.scan.proofs.Then.{then, refused}
 use borrow.Author.Needs.{needs}
 use Rattle.parts.proofs.double.Statement.{statement}
 use Rattle.parts.proofs.double.Tie as tie
 use Rattle.parts.proofs.double.Reads as reads
 use Rattle.parts.proofs.double.Lts as lts
 use Rattle.decide.proofs.numbered.Reads as numbered-reads
-use Rattle.parts.proofs.eight.Reads as eight-reads
-use Rattle.parts.proofs.no_number.Reads as no-number-reads
+use Rattle.scan.proofs.eight.Reads as eight-reads
+use Rattle.scan.proofs.no_number.Reads as no-number-reads
 
 eight-requires : tie.Need-eight-requires
 eight-requires c κs = search needs

@@ -1,10 +1,10 @@
 -- Made by proofs.py from answers/external.txt: change that file, not this one.
--- answers d60fa21ac0af proof 64d4a481f6da
+-- answers 0df4ffabbcd1 proof e9c0838cecf1
 use mathlib.Core.Path.{ap}
-use Rattle.decide.specs.Held.{textOf}
-use Rattle.parts.specs.Held.{externalTrait}
-use Rattle.parts.proofs.Does.{does-refuse}
-use Rattle.parts.proofs.Then.{then, refused}
+use Rattle.decide.specs.Outcomes.{textOf}
+use Rattle.parts.specs.Heads.{externalTrait}
+use Rattle.scan.proofs.Does.{does-refuse}
+use Rattle.scan.proofs.Then.{then, refused}
 use borrow.Author.Needs.{needs}
 use Rattle.parts.proofs.external.Statement.{statement}
 use Rattle.parts.proofs.external.Tie as tie
@@ -12,7 +12,7 @@ use Rattle.parts.proofs.external.Reads as reads
 use Rattle.parts.proofs.external.Lts as lts
 use Rattle.decide.proofs.no_text.Reads as no-text-reads
 use Rattle.decide.proofs.refuse.Reads as refuse-reads
-use Rattle.parts.proofs.text.Reads as text-reads
+use Rattle.scan.proofs.text.Reads as text-reads
 
 text-requires : tie.Need-text-requires
 text-requires c κs = search needs

@@ -1,9 +1,9 @@
 -- Made by proofs.py from answers/fixed_flag.txt: change that file, not this one.
--- answers bd284200f787 proof 535106801970
+-- answers ad9eca9f82dc proof eda2174af369
 use mathlib.Core.Path.{ap}
-use Rattle.parts.specs.Held.{flag, numberIn}
-use Rattle.parts.proofs.Does.{does-flagged}
-use Rattle.parts.proofs.Then.{then, refused}
+use Rattle.scan.specs.Reads.{flag, numberIn}
+use Rattle.scan.proofs.Does.{does-flagged}
+use Rattle.scan.proofs.Then.{then, refused}
 use borrow.Author.Needs.{needs}
 use Rattle.parts.proofs.fixed_flag.Statement.{statement}
 use Rattle.parts.proofs.fixed_flag.Tie as tie
@@ -11,8 +11,8 @@ use Rattle.parts.proofs.fixed_flag.Reads as reads
 use Rattle.parts.proofs.fixed_flag.Lts as lts
 use Rattle.decide.proofs.fixed.Reads as fixed-reads
 use Rattle.decide.proofs.flagged.Reads as flagged-reads
-use Rattle.parts.proofs.byte.Reads as byte-reads
-use Rattle.parts.proofs.no_number.Reads as no-number-reads
+use Rattle.scan.proofs.byte.Reads as byte-reads
+use Rattle.scan.proofs.no_number.Reads as no-number-reads
 
 byte-requires : tie.Need-byte-requires
 byte-requires c κs = search needs

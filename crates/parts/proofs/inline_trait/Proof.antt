@@ -1,10 +1,10 @@
 -- Made by proofs.py from answers/inline_trait.txt: change that file, not this one.
--- answers 9dcd0892896c proof 632c49d0d86f
+-- answers cf554883c449 proof 1b9a9d054887
 use mathlib.Core.Path.{refl, ap}
-use Rattle.decide.specs.Held.{doneOf}
-use Rattle.parts.specs.Held.{inlineTrait}
-use Rattle.parts.proofs.Does.{does-object, does-trait-end}
-use Rattle.parts.proofs.Then.{then, refused, returned}
+use Rattle.decide.specs.Outcomes.{doneOf}
+use Rattle.parts.specs.Heads.{inlineTrait}
+use Rattle.scan.proofs.Does.{does-object, does-trait-end}
+use Rattle.scan.proofs.Then.{then, refused, returned}
 use borrow.Author.Needs.{needs}
 use Rattle.parts.proofs.inline_trait.Statement.{statement}
 use Rattle.parts.proofs.inline_trait.Tie as tie

@@ -1,18 +1,18 @@
 -- Made by proofs.py from answers/integer.txt: change that file, not this one.
--- answers dc7cb4094922 proof 87d63de0398f
+-- answers 3ac381f359ee proof 245d3e50ca66
 use mathlib.Core.Path.{ap}
 use Rattle.format.specs.Reading.{marked}
-use Rattle.parts.specs.Held.{numberIn}
-use Rattle.parts.proofs.Does.{does-integer}
-use Rattle.parts.proofs.Then.{then, refused}
+use Rattle.scan.specs.Reads.{numberIn}
+use Rattle.scan.proofs.Does.{does-integer}
+use Rattle.scan.proofs.Then.{then, refused}
 use borrow.Author.Needs.{needs}
 use Rattle.parts.proofs.integer.Statement.{statement}
 use Rattle.parts.proofs.integer.Tie as tie
 use Rattle.parts.proofs.integer.Reads as reads
 use Rattle.parts.proofs.integer.Lts as lts
 use Rattle.decide.proofs.integer_end.Reads as integer-end-reads
-use Rattle.parts.proofs.no_number.Reads as no-number-reads
-use Rattle.parts.proofs.word.Reads as word-reads
+use Rattle.scan.proofs.no_number.Reads as no-number-reads
+use Rattle.scan.proofs.word.Reads as word-reads
 
 word-requires : tie.Need-word-requires
 word-requires c κs = search needs

@@ -1,10 +1,10 @@
 -- Made by proofs.py from answers/known_trait.txt: change that file, not this one.
--- answers 2e4196607e2b proof 52a867440c07
+-- answers 5f3fe587cc2d proof 0b8bf6995a98
 use mathlib.Core.Path.{ap}
-use Rattle.decide.specs.Held.{doneOf, traitedOf}
-use Rattle.parts.specs.Held.{knownTrait}
-use Rattle.parts.proofs.Does.{does-old-trait, does-object}
-use Rattle.parts.proofs.Then.{then, refused, returned}
+use Rattle.decide.specs.Outcomes.{doneOf, traitedOf}
+use Rattle.parts.specs.Heads.{knownTrait}
+use Rattle.scan.proofs.Does.{does-old-trait, does-object}
+use Rattle.scan.proofs.Then.{then, refused, returned}
 use borrow.Author.Needs.{needs}
 use Rattle.parts.proofs.known_trait.Statement.{statement}
 use Rattle.parts.proofs.known_trait.Tie as tie

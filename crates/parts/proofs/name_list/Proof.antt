@@ -1,20 +1,20 @@
 -- Made by proofs.py from answers/name_list.txt: change that file, not this one.
--- answers 2d9f77062f70 proof 393152336ef7
+-- answers 675143411d40 proof bde78fb00e61
 use borrow.Author.Needs.{needs}
 use native.Mathlib.Omega.{arith}
 use mathlib.Core.Path.{refl, sym, ap, _∙_}
 use Prim.Native.Nat.{_-_}
-use Rattle.decide.specs.Held.{textOf}
-use Rattle.parts.proofs.Does.{does-named}
-use Rattle.parts.proofs.Loops.{Names, names-all, names-more, names-none}
-use Rattle.parts.proofs.Then.{then, refused}
+use Rattle.decide.specs.Outcomes.{textOf}
+use Rattle.scan.proofs.Does.{does-named}
+use Rattle.scan.proofs.Loops.{Names, names-all, names-more, names-none}
+use Rattle.scan.proofs.Then.{then, refused}
 use Rattle.parts.proofs.name_list.Statement.{statement}
 use Rattle.parts.proofs.name_list.Tie as tie
 use Rattle.parts.proofs.name_list.Reads as reads
 use Rattle.parts.proofs.name_list.Lts as lts
 use Rattle.decide.proofs.named.Reads as named-reads
 use Rattle.decide.proofs.no_text.Reads as no-text-reads
-use Rattle.parts.proofs.text.Reads as text-reads
+use Rattle.scan.proofs.text.Reads as text-reads
 
 abbrev Inv-loop : tie.InvT-loop
 Inv-loop message store₀ strings₀ names₀ n cur₀ i₀ store strings names cur i = Names message store₀ strings₀ names₀ n cur₀ store strings names cur i

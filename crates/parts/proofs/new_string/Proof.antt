@@ -1,12 +1,12 @@
 -- Made by proofs.py from answers/new_string.txt: change that file, not this one.
--- answers 1e7f4e1782d5 proof 200fe1431efe
+-- answers afa247c5181e proof 4b447d09a926
 use mathlib.Core.Path.{refl, sym, ap, _∙_}
-use Rattle.decide.specs.Held.{doneOf, textOf, whetherOf}
+use Rattle.decide.specs.Outcomes.{doneOf, textOf, whetherOf}
 use Rattle.format.specs.Reading.{charsOf}
-use Rattle.parts.proofs.Does.{does-reserved, does-bodied, does-text-end}
-use Rattle.parts.proofs.Reserves.{reserved-placed, row-placed}
-use Rattle.parts.proofs.Sizes.{text-none, text-some}
-use Rattle.parts.proofs.Then.{then, passed, refused, chosen}
+use Rattle.scan.proofs.Does.{does-reserved, does-bodied, does-text-end}
+use Rattle.scan.proofs.Reserves.{reserved-placed, row-placed}
+use Rattle.scan.proofs.Sizes.{text-none, text-some}
+use Rattle.scan.proofs.Then.{then, passed, refused, chosen}
 use borrow.Author.Needs.{needs}
 use Rattle.parts.proofs.new_string.Statement.{statement}
 use Rattle.parts.proofs.new_string.Tie as tie
@@ -17,7 +17,7 @@ use Rattle.decide.proofs.no_flag.Reads as no-flag-reads
 use Rattle.decide.proofs.not_done.Reads as not-done-reads
 use Rattle.decide.proofs.reserved.Reads as reserved-reads
 use Rattle.decide.proofs.text_end.Reads as text-end-reads
-use Rattle.parts.proofs.checked.Reads as checked-reads
+use Rattle.scan.proofs.checked.Reads as checked-reads
 
 returns : tie.Need-returns
 returns c = λ O U N. text-none _ _ _ _ _ (c .if1 .taken)

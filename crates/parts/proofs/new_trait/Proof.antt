@@ -1,10 +1,10 @@
 -- Made by proofs.py from answers/new_trait.txt: change that file, not this one.
--- answers 18f318d14006 proof 20447bb51637
+-- answers 5125df6385f9 proof 9532bfd5010e
 use mathlib.Core.Path.{ap}
-use Rattle.decide.specs.Held.{textOf}
+use Rattle.decide.specs.Outcomes.{textOf}
 use Rattle.format.specs.Decide.{traitOf}
-use Rattle.parts.specs.Held.{newTrait, inlineTrait}
-use Rattle.parts.proofs.Then.{then, refused, from-cursor, chosen}
+use Rattle.parts.specs.Heads.{newTrait, inlineTrait}
+use Rattle.scan.proofs.Then.{then, refused, from-cursor, chosen}
 use borrow.Author.Needs.{needs}
 use Rattle.parts.proofs.new_trait.Statement.{statement}
 use Rattle.parts.proofs.new_trait.Tie as tie
@@ -13,7 +13,7 @@ use Rattle.parts.proofs.new_trait.Lts as lts
 use Rattle.decide.proofs.no_text.Reads as no-text-reads
 use Rattle.decide.proofs.trait_of.Reads as trait-of-reads
 use Rattle.parts.proofs.inline_trait.Reads as inline-trait-reads
-use Rattle.parts.proofs.text.Reads as text-reads
+use Rattle.scan.proofs.text.Reads as text-reads
 
 text-requires : tie.Need-text-requires
 text-requires c κs = search needs

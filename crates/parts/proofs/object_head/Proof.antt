@@ -1,11 +1,12 @@
 -- Made by proofs.py from answers/object_head.txt: change that file, not this one.
--- answers 8e9fc4321a4c proof dacb52972523
+-- answers 035b1f344a83 proof 06ccc72b2e3d
 use mathlib.Core.Path.{sym, ap, _∙_}
-use Rattle.decide.specs.Held.{doneOf}
-use Rattle.parts.specs.Held.{numberIn, objectHead, objectRest}
-use Rattle.parts.proofs.Does.{does-referred, does-entered}
+use Rattle.decide.specs.Outcomes.{doneOf}
+use Rattle.scan.specs.Reads.{numberIn}
+use Rattle.parts.specs.Heads.{objectHead, objectRest}
+use Rattle.scan.proofs.Does.{does-referred, does-entered}
 use Rattle.parts.proofs.Shapes.{object-entered, object-not-entered}
-use Rattle.parts.proofs.Then.{then, refused, returned, chosen}
+use Rattle.scan.proofs.Then.{then, refused, returned, chosen}
 use borrow.Author.Needs.{needs}
 use Rattle.parts.proofs.object_head.Statement.{statement}
 use Rattle.parts.proofs.object_head.Tie as tie
@@ -18,8 +19,8 @@ use Rattle.decide.proofs.referred.Reads as referred-reads
 use Rattle.parts.proofs.external.Reads as external-reads
 use Rattle.parts.proofs.known_trait.Reads as known-trait-reads
 use Rattle.parts.proofs.new_trait.Reads as new-trait-reads
-use Rattle.parts.proofs.no_number.Reads as no-number-reads
-use Rattle.parts.proofs.word.Reads as word-reads
+use Rattle.scan.proofs.no_number.Reads as no-number-reads
+use Rattle.scan.proofs.word.Reads as word-reads
 use Rattle.wire.proofs.shape_of.Reads as shape-of-reads
 
 word-requires : tie.Need-word-requires

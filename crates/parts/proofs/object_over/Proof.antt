@@ -1,8 +1,8 @@
 -- Made by proofs.py from answers/object_over.txt: change that file, not this one.
--- answers 5b6dca476b1c proof 957bf258b45b
+-- answers 545640c10509 proof cfddb6f519ab
 use mathlib.Core.Path.{sym, ap, _∙_}
 use Rattle.decide.proofs.Refusals.{stops}
-use Rattle.parts.specs.Held.{classedOf, overOf}
+use Rattle.parts.specs.Heads.{classedOf, overOf}
 use borrow.Author.Needs.{needs}
 use Rattle.parts.proofs.object_over.Statement.{statement}
 use Rattle.parts.proofs.object_over.Tie as tie

@@ -1,8 +1,8 @@
 -- Made by proofs.py from answers/over.txt: change that file, not this one.
--- answers 06208a0f0748 proof 1c8b2f95611a
+-- answers f8f28506a66d proof bc84a6b8b0e5
 use mathlib.Core.Path.{sym, ap, _∙_}
 use Rattle.decide.proofs.Refusals.{stops}
-use Rattle.parts.specs.Held.{sizedOf, overOf}
+use Rattle.parts.specs.Heads.{sizedOf, overOf}
 use borrow.Author.Needs.{needs}
 use Rattle.parts.proofs.over.Statement.{statement}
 use Rattle.parts.proofs.over.Tie as tie

@@ -1,17 +1,17 @@
 -- Made by proofs.py from answers/raw.txt: change that file, not this one.
--- answers de5b68ef3462 proof aad5db3ac353
+-- answers f1db910a7b83 proof 2264c6a8e388
 use native.Mathlib.Omega.{arith}
 use mathlib.Core.Path.{refl, sym, ap, _∙_}
 use mathlib.Core.List.{[]}
 use Prim.Native.Nat.{_*_}
-use Rattle.decide.specs.Held.{doneOf, textOf, widthIn}
+use Rattle.decide.specs.Outcomes.{doneOf, textOf, widthIn}
 use Rattle.format.specs.Decide.{fixed}
 use Rattle.format.specs.Reading.{newOf, room}
-use Rattle.parts.proofs.Does.{does-closed}
+use Rattle.scan.proofs.Does.{does-closed}
 use Rattle.parts.proofs.Regrouped.{raw-regrouped}
-use Rattle.parts.proofs.Reserves.{room-placed, flag-flagged, flagged-placed}
-use Rattle.parts.proofs.Sizes.{raw-size}
-use Rattle.parts.proofs.Then.{then, passed, refused, chosen}
+use Rattle.scan.proofs.Reserves.{room-placed, flag-flagged, flagged-placed}
+use Rattle.scan.proofs.Sizes.{raw-size}
+use Rattle.scan.proofs.Then.{then, passed, refused, chosen}
 use borrow.Author.Needs.{needs}
 use Rattle.parts.proofs.raw.Statement.{statement}
 use Rattle.parts.proofs.raw.Tie as tie

@@ -1,18 +1,18 @@
 -- Made by proofs.py from answers/raw_copied.txt: change that file, not this one.
--- answers eea50244d9e5 proof 863845a098db
+-- answers 7c1f5d6f1454 proof 8b614f0a2dce
 use mathlib.Core.Path.{refl, ap, _∙_}
-use Rattle.decide.specs.Held.{doneOf}
-use Rattle.parts.proofs.Does.{does-grown}
-use Rattle.parts.proofs.Then.{then, refused}
-use Rattle.parts.proofs.Ends.{some}
-use Rattle.parts.proofs.Copies.{reads-empty, reads-raw}
+use Rattle.decide.specs.Outcomes.{doneOf}
+use Rattle.scan.proofs.Does.{does-grown}
+use Rattle.scan.proofs.Then.{then, refused}
+use Rattle.scan.proofs.Ends.{some}
+use Rattle.scan.proofs.Copies.{reads-empty, reads-raw}
 use borrow.Author.Needs.{needs}
 use Rattle.parts.proofs.raw_copied.Statement.{statement}
 use Rattle.parts.proofs.raw_copied.Tie as tie
 use Rattle.parts.proofs.raw_copied.Reads as reads
 use Rattle.parts.proofs.raw_copied.Lts as lts
 use Rattle.decide.proofs.grown.Reads as grown-reads
-use Rattle.parts.proofs.copied.Reads as copied-reads
+use Rattle.scan.proofs.copied.Reads as copied-reads
 
 returns : tie.Need-returns
 returns c = λ T O U N. reads-empty _ _ _ _ _ (c .if1 .taken)

@@ -1,10 +1,10 @@
 -- Made by proofs.py from answers/room.txt: change that file, not this one.
--- answers 5c79d8f1ed39 proof 56638f00cb5f
+-- answers 1e874916147c proof 5a2cc5c23bb1
 use mathlib.Core.Path.{sym, ap, _∙_}
-use Rattle.decide.specs.Held.{doneOf, textOf}
-use Rattle.parts.proofs.Does.{does-reserved, does-bodied}
-use Rattle.parts.proofs.Then.{then, passed, refused, returned}
-use Rattle.parts.proofs.Sizes.{room-none, room-some}
+use Rattle.decide.specs.Outcomes.{doneOf, textOf}
+use Rattle.scan.proofs.Does.{does-reserved, does-bodied}
+use Rattle.scan.proofs.Then.{then, passed, refused, returned}
+use Rattle.scan.proofs.Sizes.{room-none, room-some}
 use borrow.Author.Needs.{needs}
 use Rattle.parts.proofs.room.Statement.{statement}
 use Rattle.parts.proofs.room.Tie as tie

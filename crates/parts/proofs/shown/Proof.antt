@@ -1,10 +1,10 @@
 -- Made by proofs.py from answers/shown.txt: change that file, not this one.
--- answers 814a276f6568 proof 3d5fff79d4fb
+-- answers d7c723c0185d proof ba283405e48d
 use mathlib.Core.Path.{ap}
-use Rattle.decide.specs.Held.{doneOf}
-use Rattle.parts.specs.Held.{lastBody}
-use Rattle.parts.proofs.Does.{does-bodied, does-closed}
-use Rattle.parts.proofs.Then.{then, passed}
+use Rattle.decide.specs.Outcomes.{doneOf}
+use Rattle.parts.specs.Heads.{lastBody}
+use Rattle.scan.proofs.Does.{does-bodied, does-closed}
+use Rattle.scan.proofs.Then.{then, passed}
 use borrow.Author.Needs.{needs}
 use Rattle.parts.proofs.shown.Statement.{statement}
 use Rattle.parts.proofs.shown.Tie as tie

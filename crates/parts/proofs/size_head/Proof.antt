@@ -1,11 +1,13 @@
 -- Made by proofs.py from answers/size_head.txt: change that file, not this one.
--- answers eaf1d1af1fc5 proof c93a83166f57
+-- answers 945362afcf15 proof 28c4501c5088
 use mathlib.Core.Path.{sym, ap, _∙_}
-use Rattle.decide.specs.Held.{doneOf}
-use Rattle.parts.specs.Held.{numberIn, sizeHead, sizeRest}
-use Rattle.parts.proofs.Does.{does-referred, does-entered}
-use Rattle.parts.proofs.Then.{then, refused, returned, chosen}
-use Rattle.parts.proofs.Sizes.{size-bound, no-bound, over-bound, new-bound}
+use Rattle.decide.specs.Outcomes.{doneOf}
+use Rattle.scan.specs.Reads.{numberIn}
+use Rattle.parts.specs.Heads.{sizeHead, sizeRest}
+use Rattle.scan.proofs.Does.{does-referred, does-entered}
+use Rattle.scan.proofs.Then.{then, refused, returned, chosen}
+use Rattle.scan.proofs.Sizes.{size-bound}
+use Rattle.parts.proofs.Bounds.{no-bound, over-bound, new-bound}
 use borrow.Author.Needs.{needs}
 use Rattle.parts.proofs.size_head.Statement.{statement}
 use Rattle.parts.proofs.size_head.Tie as tie
@@ -14,8 +16,8 @@ use Rattle.parts.proofs.size_head.Lts as lts
 use Rattle.decide.proofs.entered.Reads as entered-reads
 use Rattle.decide.proofs.not_done.Reads as not-done-reads
 use Rattle.decide.proofs.referred.Reads as referred-reads
-use Rattle.parts.proofs.no_number.Reads as no-number-reads
-use Rattle.parts.proofs.word.Reads as word-reads
+use Rattle.scan.proofs.no_number.Reads as no-number-reads
+use Rattle.scan.proofs.word.Reads as word-reads
 use Rattle.wire.proofs.size_of.Reads as size-of-reads
 
 word-requires : tie.Need-word-requires

@@ -1,10 +1,10 @@
 -- Made by proofs.py from answers/string.txt: change that file, not this one.
--- answers 1d865b8d88cc proof 76c1ccffd11d
+-- answers 14363e598711 proof 0653561eef01
 use mathlib.Core.Path.{ap}
-use Rattle.decide.specs.Held.{textOf}
+use Rattle.decide.specs.Outcomes.{textOf}
 use Rattle.format.specs.Reading.{marked}
-use Rattle.parts.specs.Held.{lastBody}
-use Rattle.parts.proofs.Then.{then, refused}
+use Rattle.parts.specs.Heads.{lastBody}
+use Rattle.scan.proofs.Then.{then, refused}
 use borrow.Author.Needs.{needs}
 use Rattle.parts.proofs.string.Statement.{statement}
 use Rattle.parts.proofs.string.Tie as tie

@@ -1,10 +1,10 @@
 -- Made by proofs.py from answers/string_text.txt: change that file, not this one.
--- answers 8e71dfa688d8 proof 2d65e8f4d964
+-- answers 98f9c60fb671 proof 867269f5b373
 use mathlib.Core.Path.{sym, ap, _∙_}
 use Rattle.format.specs.Reading as r
-use Rattle.parts.specs.Held.{numberIn}
-use Rattle.parts.proofs.Does.{does-old-text}
-use Rattle.parts.proofs.Then.{then, refused, chosen}
+use Rattle.scan.specs.Reads.{numberIn}
+use Rattle.scan.proofs.Does.{does-old-text}
+use Rattle.scan.proofs.Then.{then, refused, chosen}
 use borrow.Author.Needs.{needs}
 use Rattle.parts.proofs.string_text.Statement.{statement}
 use Rattle.parts.proofs.string_text.Tie as tie
@@ -12,8 +12,8 @@ use Rattle.parts.proofs.string_text.Reads as reads
 use Rattle.parts.proofs.string_text.Lts as lts
 use Rattle.decide.proofs.old_text.Reads as old-text-reads
 use Rattle.parts.proofs.new_string.Reads as new-string-reads
-use Rattle.parts.proofs.no_number.Reads as no-number-reads
-use Rattle.parts.proofs.word.Reads as word-reads
+use Rattle.scan.proofs.no_number.Reads as no-number-reads
+use Rattle.scan.proofs.word.Reads as word-reads
 use Rattle.wire.proofs.size_of.Reads as size-of-reads
 
 word-requires : tie.Need-word-requires

@@ -1,10 +1,10 @@
 -- Made by proofs.py from answers/vector_head.txt: change that file, not this one.
--- answers c747d57f974c proof d64153b66c57
+-- answers 8ee22b35daa6 proof 310e967d6644
 use mathlib.Core.Path.{refl, sym, ap, _∙_}
-use Rattle.decide.specs.Held.{doneOf, textOf, whetherOf}
-use Rattle.parts.proofs.Does.{does-starred, does-vector}
+use Rattle.decide.specs.Outcomes.{doneOf, textOf, whetherOf}
+use Rattle.scan.proofs.Does.{does-starred, does-vector}
 use Rattle.parts.proofs.Regrouped.{vector-regrouped}
-use Rattle.parts.proofs.Then.{then, answered, refused}
+use Rattle.scan.proofs.Then.{then, answered, refused}
 use borrow.Author.Needs.{needs}
 use Rattle.parts.proofs.vector_head.Statement.{statement}
 use Rattle.parts.proofs.vector_head.Tie as tie
@@ -15,7 +15,7 @@ use Rattle.decide.proofs.no_text.Reads as no-text-reads
 use Rattle.decide.proofs.starred.Reads as starred-reads
 use Rattle.decide.proofs.vector_class.Reads as vector-class-reads
 use Rattle.parts.proofs.fixed_flag.Reads as fixed-flag-reads
-use Rattle.parts.proofs.text.Reads as text-reads
+use Rattle.scan.proofs.text.Reads as text-reads
 
 fixed-flag-requires : tie.Need-fixed-flag-requires
 fixed-flag-requires c κs = search needs

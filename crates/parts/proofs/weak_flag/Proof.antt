@@ -1,9 +1,9 @@
 -- Made by proofs.py from answers/weak_flag.txt: change that file, not this one.
--- answers d6c0878fd50b proof ce061fccdbbe
+-- answers 93efc6c2915a proof 800c138839f4
 use mathlib.Core.Path.{ap}
-use Rattle.parts.specs.Held.{flag, numberIn}
-use Rattle.parts.proofs.Does.{does-flagged}
-use Rattle.parts.proofs.Then.{then, refused}
+use Rattle.scan.specs.Reads.{flag, numberIn}
+use Rattle.scan.proofs.Does.{does-flagged}
+use Rattle.scan.proofs.Then.{then, refused}
 use borrow.Author.Needs.{needs}
 use Rattle.parts.proofs.weak_flag.Statement.{statement}
 use Rattle.parts.proofs.weak_flag.Tie as tie
@@ -11,8 +11,8 @@ use Rattle.parts.proofs.weak_flag.Reads as reads
 use Rattle.parts.proofs.weak_flag.Lts as lts
 use Rattle.decide.proofs.flagged.Reads as flagged-reads
 use Rattle.decide.proofs.weak.Reads as weak-reads
-use Rattle.parts.proofs.byte.Reads as byte-reads
-use Rattle.parts.proofs.no_number.Reads as no-number-reads
+use Rattle.scan.proofs.byte.Reads as byte-reads
+use Rattle.scan.proofs.no_number.Reads as no-number-reads
 
 byte-requires : tie.Need-byte-requires
 byte-requires c κs = search needs

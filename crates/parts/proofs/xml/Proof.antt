@@ -1,12 +1,12 @@
 -- Made by proofs.py from answers/xml.txt: change that file, not this one.
--- answers fea07974740a proof 28d042e843bf
+-- answers b096203d3067 proof 7a88305a0988
 use mathlib.Core.Path.{refl, ap, _∙_}
 use mathlib.Core.List.{[]}
-use Rattle.decide.specs.Held.{doneOf, textOf, whetherOf}
+use Rattle.decide.specs.Outcomes.{doneOf, textOf, whetherOf}
 use Rattle.format.specs.Reading.{newOf, charsOf}
-use Rattle.parts.proofs.Does.{does-judged, does-closed}
-use Rattle.parts.proofs.Reserves.{room-placed}
-use Rattle.parts.proofs.Then.{then, passed, refused, chosen}
+use Rattle.scan.proofs.Does.{does-judged, does-closed}
+use Rattle.scan.proofs.Reserves.{room-placed}
+use Rattle.scan.proofs.Then.{then, passed, refused, chosen}
 use borrow.Author.Needs.{needs}
 use Rattle.parts.proofs.xml.Statement.{statement}
 use Rattle.parts.proofs.xml.Tie as tie
@@ -16,7 +16,7 @@ use Rattle.decide.proofs.closed.Reads as closed-reads
 use Rattle.decide.proofs.judged.Reads as judged-reads
 use Rattle.decide.proofs.no_flag.Reads as no-flag-reads
 use Rattle.decide.proofs.no_text.Reads as no-text-reads
-use Rattle.parts.proofs.checked.Reads as checked-reads
+use Rattle.scan.proofs.checked.Reads as checked-reads
 use Rattle.parts.proofs.room.Reads as room-reads
 
 room-requires : tie.Need-room-requires

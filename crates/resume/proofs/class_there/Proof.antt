@@ -1,8 +1,8 @@
 -- Made by proofs.py from answers/class_there.txt: change that file, not this one.
--- answers 4fe64b056929 proof 093e1fa174b6
+-- answers c5de183a42d2 proof dd2596399067
 use mathlib.Core.Path.{refl, sym, ap, _∙_}
-use Rattle.decide.specs.Held.{doneOf}
-use Rattle.resume.specs.Held.{afterOf}
+use Rattle.decide.specs.Outcomes.{doneOf}
+use Rattle.resume.specs.Steps.{afterOf}
 use Rattle.resume.proofs.Decided.{gave-object, stop-object}
 use Rattle.resume.proofs.Refusals.{refuses}
 use Rattle.resume.proofs.Classes.{class-made}

@@ -1,7 +1,7 @@
 -- Made by proofs.py from answers/close.txt: change that file, not this one.
--- answers 9390f46895d7 proof de867669ba90
+-- answers cda56e3eb7c3 proof 5b82a9b96989
 use mathlib.Core.Path.{ap}
-use Rattle.decide.specs.Held.{doneOf}
+use Rattle.decide.specs.Outcomes.{doneOf}
 use Rattle.resume.proofs.Decided.{gave-closed, stop-closed}
 use Rattle.resume.proofs.Settled.{refuses-rows, same}
 use borrow.Author.Needs.{needs}

@@ -1,8 +1,8 @@
 -- Made by proofs.py from answers/count_entry.txt: change that file, not this one.
--- answers 836149b0a25a proof 814db7194f54
+-- answers 91a092fc94e6 proof 1176c233e2e9
 use native.Mathlib.Omega.{arith}
 use mathlib.Core.Path.{sym, ap}
-use Rattle.decide.specs.Held.{doneOf}
+use Rattle.decide.specs.Outcomes.{doneOf}
 use Rattle.resume.proofs.Decided.{gave-counted, stop-counted}
 use Rattle.resume.proofs.Settled.{refused-as}
 use Rattle.resume.proofs.Tasks.{counted-below}

@@ -1,7 +1,7 @@
 -- Made by proofs.py from answers/finish.txt: change that file, not this one.
--- answers c6f9bc044e79 proof 9580ee6cd4cb
+-- answers 4e3d607eb4ac proof d0456d2b5461
 use mathlib.Core.Path.{ap}
-use Rattle.decide.specs.Held.{doneOf}
+use Rattle.decide.specs.Outcomes.{doneOf}
 use Rattle.resume.proofs.Decided.{gave-closed, stop-closed}
 use Rattle.resume.proofs.Settled.{refuses-rows, finishes}
 use borrow.Author.Needs.{needs}

@@ -1,10 +1,10 @@
 -- Made by proofs.py from answers/go_members.txt: change that file, not this one.
--- answers 057fa0f50e44 proof dd889fc13920
+-- answers d446a297c13d proof 7ac2a23a8610
 use native.Mathlib.Omega.{arith}
 use mathlib.Core.Path.{refl, sym, ap, _∙_}
 use Prim.Native.Nat.{_+_}
 use borrow.Author.Tests.{not-true, not-false, leb-true}
-use Rattle.decide.specs.Held.{keyedOf}
+use Rattle.decide.specs.Outcomes.{keyedOf}
 use Rattle.resume.proofs.Decided.{gave-sealed-key, stop-sealed-key}
 use Rattle.resume.proofs.Settled.{refuses, same}
 use Rattle.resume.proofs.Tasks.{no-members, dynamic-members, more-members, astray-members}

@@ -1,9 +1,9 @@
 -- Made by proofs.py from answers/name_there.txt: change that file, not this one.
--- answers c6690ba33945 proof 89b2a3fe12ea
+-- answers 5df31a680eb1 proof add7ca40a6d6
 use mathlib.Core.Path.{refl, sym, ap, _∙_}
-use Rattle.decide.specs.Held.{textOf}
+use Rattle.decide.specs.Outcomes.{textOf}
 use Rattle.format.specs.Step.{had}
-use Rattle.resume.specs.Held.{afterOf}
+use Rattle.resume.specs.Steps.{afterOf}
 use Rattle.resume.proofs.Decided.{gave-named, stop-named}
 use Rattle.resume.proofs.Refusals.{refuses}
 use borrow.Author.Needs.{needs}

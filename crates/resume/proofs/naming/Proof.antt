@@ -1,7 +1,7 @@
 -- Made by proofs.py from answers/naming.txt: change that file, not this one.
--- answers e690632a1c06 proof 6f5a7fcdea8e
+-- answers 39c98e565d2b proof 45f7d46bd493
 use mathlib.Core.Path.{refl, ap, _∙_}
-use Rattle.decide.specs.Held.{doneOf}
+use Rattle.decide.specs.Outcomes.{doneOf}
 use Rattle.format.specs.Numbers.{workOf, useWork}
 use Rattle.resume.proofs.Decided.{gave-trait-end, stop-trait-end}
 use Rattle.resume.proofs.Settled.{refuses, zeroed-same, waits, same}

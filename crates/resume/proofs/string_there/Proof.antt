@@ -1,9 +1,9 @@
 -- Made by proofs.py from answers/string_there.txt: change that file, not this one.
--- answers 0e58fc2d7117 proof 250f14aa4b0e
+-- answers d139e491a079 proof f5a8c3f600cf
 use mathlib.Core.Path.{refl, sym, ap, _∙_}
-use Rattle.decide.specs.Held.{doneOf}
+use Rattle.decide.specs.Outcomes.{doneOf}
 use Rattle.format.specs.Step.{had}
-use Rattle.resume.specs.Held.{afterOf}
+use Rattle.resume.specs.Steps.{afterOf}
 use Rattle.resume.proofs.Decided.{gave-bodied, stop-bodied}
 use Rattle.resume.proofs.Refusals.{refuses}
 use borrow.Author.Needs.{needs}

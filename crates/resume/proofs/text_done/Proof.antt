@@ -1,10 +1,10 @@
 -- Made by proofs.py from answers/text_done.txt: change that file, not this one.
--- answers 3c9e4f4cd5a6 proof a68b7dbbd7a9
+-- answers cc0cc073d70e proof 2c4f100d51c5
 use mathlib.Core.Path.{refl, sym, ap, _∙_}
 use borrow.Author.Tests.{ne-eqb}
-use Rattle.decide.specs.Held.{doneOf, textOf}
+use Rattle.decide.specs.Outcomes.{doneOf, textOf}
 use Rattle.format.specs.Step.{textDone}
-use Rattle.resume.specs.Held.{afterOf}
+use Rattle.resume.specs.Steps.{afterOf}
 use Rattle.resume.proofs.Decided.{gave-judged, stop-judged, gave-text-end, stop-text-end}
 use Rattle.resume.proofs.Refusals.{refuses}
 use Rattle.resume.proofs.Uses.{use-had, use-text}

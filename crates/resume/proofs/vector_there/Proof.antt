@@ -1,9 +1,9 @@
 -- Made by proofs.py from answers/vector_there.txt: change that file, not this one.
--- answers 868073d778ca proof 8fe5713edae0
+-- answers 16659933aa7c proof 561118d1ab27
 use mathlib.Core.Path.{refl, sym, ap, _∙_}
-use Rattle.decide.specs.Held.{doneOf, whetherOf}
+use Rattle.decide.specs.Outcomes.{doneOf, whetherOf}
 use Rattle.format.specs.Step.{had, taskOf}
-use Rattle.resume.specs.Held.{afterOf}
+use Rattle.resume.specs.Steps.{afterOf}
 use Rattle.resume.proofs.Decided.{gave-starred, stop-starred, gave-vector, stop-vector}
 use Rattle.resume.proofs.Refusals.{refuses}
 use borrow.Author.Needs.{needs}

@@ -1,5 +1,5 @@
 -- Made by proofs.py from answers/loan_fault.txt: change that file, not this one.
--- answers 2de57002a455 proof 488d026bc958
+-- answers 95eaaec4bd79 proof c9b909f7da0d
 use mathlib.Core.Path.{sym, _∙_}
 use Rattle.rows.specs.Memory.{loanFault}
 use borrow.Author.Needs.{needs}
@@ -17,14 +17,14 @@ faulty-requires c κs = search needs
 
 returns : tie.Need-returns
 unfolding loanFault
-returns c = sym (simp (sym (c .before .faulty .ensures) ∙ c .if1 .taken))
+returns c = sym (rw (sym (c .before .faulty .ensures) ∙ c .if1 .taken))
 
 faulty-requires-2 : tie.Need-faulty-requires-2
 faulty-requires-2 c κs = search needs
 
 returns-2 : tie.Need-returns-2
 unfolding loanFault
-returns-2 c = sym (simp (
+returns-2 c = sym (rw (
   sym (c .before .before .before .faulty .ensures) ∙ c .before .before .if1 .left,
   sym (c .before .faulty2 .ensures) ∙
       c .if2 .taken,
@@ -38,7 +38,7 @@ faulty-requires-3 c κs = search needs
 
 returns-3 : tie.Need-returns-3
 unfolding loanFault
-returns-3 c = sym (simp (
+returns-3 c = sym (rw (
   sym (c .before .before .before .before .before .faulty .ensures) ∙ c .before .before .before .before .if1 .left,
   sym
       (c .before .before .before .faulty2 .ensures) ∙ c .before .before .if2 .left,
@@ -54,7 +54,7 @@ returns-4 c =
     let b5 = c .before .before .before .before .before in
     let b6 = b5 .before in
     let b7 = b6 .before in
-    sym (simp (
+    sym (rw (
       sym (b7 .faulty .ensures) ∙ b6 .if1 .left,
       sym (b5 .faulty2 .ensures) ∙ c .before .before .before .before .if2 .left,
       sym
@@ -76,7 +76,7 @@ returns-5 c =
     let b7 = b6 .before in
     let b8 = b7 .before in
     let b9 = b8 .before in
-    sym (simp (
+    sym (rw (
       sym (b9 .faulty .ensures) ∙ b8 .if1 .left,
       sym (b7 .faulty2 .ensures) ∙ b6 .if2 .left,
       sym (b5 .faulty3 .ensures) ∙
@@ -101,7 +101,7 @@ returns-6 c =
     let b9 = b8 .before in
     let b10 = b9 .before in
     let b11 = b10 .before in
-    sym (simp (
+    sym (rw (
       sym (b11 .faulty .ensures) ∙ b10 .if1 .left,
       sym (b9 .faulty2 .ensures) ∙ b8 .if2 .left,
       sym (b7 .faulty3 .ensures) ∙ b6 .if3 .left,
@@ -121,7 +121,7 @@ returns-7 c =
     let b9 = b8 .before in
     let b10 = b9 .before in
     let b11 = b10 .before in
-    sym (simp (
+    sym (rw (
       sym (b11 .faulty .ensures) ∙ b10 .if1 .left,
       sym (b9 .faulty2 .ensures) ∙ b8 .if2 .left,
       sym (b7 .faulty3 .ensures) ∙ b6 .if3 .left,

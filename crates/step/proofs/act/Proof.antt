@@ -1,7 +1,8 @@
 -- Made by proofs.py from answers/act.txt: change that file, not this one.
--- answers 998f0e47caa7 proof 6769202dbd77
+-- answers 2b95dcaaab86 proof 984636969135
+use Rattle.states.proofs.Modes.{fits-marker, fits-word, fits-number, fits-flag, fits-text, fits-raw, no-mode}
+use Rattle.step.proofs.Acts.{acts-marker, acts-word, acts-number, acts-flag, acts-text, acts-raw}
 use borrow.Author.Needs.{needs}
-use Rattle.step.proofs.Modes.{fits-marker, fits-word, fits-number, fits-flag, fits-text, fits-raw, no-mode, acts-marker, acts-word, acts-number, acts-flag, acts-text, acts-raw}
 use Rattle.step.proofs.act.Statement.{statement}
 use Rattle.step.proofs.act.Tie as tie
 use Rattle.step.proofs.act.Reads as reads
@@ -50,7 +51,7 @@ lost-requires : tie.Need-lost-requires
 lost-requires c κs = tt
 
 same-length : tie.Need-same-length
-same-length c = c .before .before .marker-byte .kept .0
+same-length c = search needs
 
 same-length-2 : tie.Need-same-length-2
 same-length-2 c = search needs
@@ -62,7 +63,7 @@ returns c =
     acts-marker (b13 .args .w) _ _ _ _ _ _ (b6 .match .keys1) (c .before .before .marker-byte .ensures _ _ _ _)
 
 same-length-3 : tie.Need-same-length-3
-same-length-3 c = c .before .before .before .before .before .before .before .before .word-byte .kept .0
+same-length-3 c = search needs
 
 same-length-4 : tie.Need-same-length-4
 same-length-4 c = search needs
@@ -71,13 +72,13 @@ same-length-5 : tie.Need-same-length-5
 same-length-5 c = search needs
 
 same-length-6 : tie.Need-same-length-6
-same-length-6 c = c .before .before .before .before .before .before .before .before .word-byte .kept .1 .1 .1 .0
+same-length-6 c = search needs
 
 same-length-7 : tie.Need-same-length-7
-same-length-7 c = c .before .before .before .before .before .before .before .before .word-byte .kept .1 .1 .1 .1 .0
+same-length-7 c = search needs
 
 same-length-8 : tie.Need-same-length-8
-same-length-8 c = c .before .before .before .before .before .before .before .before .word-byte .kept .1 .1 .1 .1 .1 .0
+same-length-8 c = search needs
 
 returns-2 : tie.Need-returns-2
 returns-2 c =
@@ -88,7 +89,7 @@ returns-2 c =
     (b8 .word-byte .ensures)
 
 same-length-9 : tie.Need-same-length-9
-same-length-9 c = c .before .before .number-byte .kept .0
+same-length-9 c = search needs
 
 same-length-10 : tie.Need-same-length-10
 same-length-10 c = search needs
@@ -101,7 +102,7 @@ returns-3 c =
     (c .before .before .number-byte .ensures _ _ _ _)
 
 same-length-11 : tie.Need-same-length-11
-same-length-11 c = c .before .before .flag-done .kept .0
+same-length-11 c = search needs
 
 same-length-12 : tie.Need-same-length-12
 same-length-12 c = search needs
@@ -114,19 +115,19 @@ returns-4 c =
     (c .before .before .flag-done .ensures _ _ _ _)
 
 same-length-13 : tie.Need-same-length-13
-same-length-13 c = c .before .before .before .before .before .before .before .before .before .before .text-byte .kept .0
+same-length-13 c = search needs
 
 same-length-14 : tie.Need-same-length-14
-same-length-14 c = c .before .before .before .before .before .before .before .before .before .before .text-byte .kept .1 .0
+same-length-14 c = search needs
 
 same-length-15 : tie.Need-same-length-15
-same-length-15 c = c .before .before .before .before .before .before .before .before .before .before .text-byte .kept .1 .1 .0
+same-length-15 c = search needs
 
 same-length-16 : tie.Need-same-length-16
-same-length-16 c = c .before .before .before .before .before .before .before .before .before .before .text-byte .kept .1 .1 .1 .0
+same-length-16 c = search needs
 
 same-length-17 : tie.Need-same-length-17
-same-length-17 c = c .before .before .before .before .before .before .before .before .before .before .text-byte .kept .1 .1 .1 .1 .0
+same-length-17 c = search needs
 
 returns-5 : tie.Need-returns-5
 returns-5 c =
@@ -137,10 +138,10 @@ returns-5 c =
     (b10 .text-byte .ensures _)
 
 same-length-18 : tie.Need-same-length-18
-same-length-18 c = c .before .before .before .before .raw-byte .kept .0
+same-length-18 c = search needs
 
 same-length-19 : tie.Need-same-length-19
-same-length-19 c = c .before .before .before .before .raw-byte .kept .1 .0
+same-length-19 c = search needs
 
 same-length-20 : tie.Need-same-length-20
 same-length-20 c = search needs

@@ -1,7 +1,7 @@
 -- Made by proofs.py from answers/begun.txt: change that file, not this one.
--- answers f98cdf2812bd proof 20e76c23b690
+-- answers 6255e1eb5e05 proof 4094dde1a3f4
 use mathlib.Core.Path.{sym, ap, _∙_}
-use Rattle.decide.specs.Held.{kindIn, bodyNo}
+use Rattle.decide.specs.Outcomes.{kindIn, bodyNo}
 use Rattle.format.specs.Step.{begun}
 use Rattle.format.specs.Numbers.{useWork, workOf}
 use Rattle.resume.proofs.Settled.{waits}

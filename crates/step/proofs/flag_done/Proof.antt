@@ -1,12 +1,12 @@
 -- Made by proofs.py from answers/flag_done.txt: change that file, not this one.
--- answers 9b1741388f82 proof 7514fbead5a6
+-- answers f0fdfef2be62 proof 1477788e7527
 use mathlib.Core.Path.{refl, sym, ap, _∙_}
 use borrow.Author.Tests.{eq-eqb, ne-eqb}
 use mathlib.Core.Logic.{⊎-elim}
-use Rattle.decide.specs.Held.{doneOf}
+use Rattle.decide.specs.Outcomes.{doneOf}
 use Rattle.format.specs.Step.{taskOf}
 use Rattle.format.specs.Numbers.{useWork, workOf}
-use Rattle.resume.specs.Held.{afterOf}
+use Rattle.resume.specs.Steps.{afterOf}
 use Rattle.resume.proofs.Decided.{gave-flagged, stop-flagged}
 use Rattle.resume.proofs.Refusals.{refuses}
 use Rattle.resume.proofs.Settled.{waits}
@@ -20,7 +20,7 @@ use Rattle.decide.proofs.fixed.Reads as fixed-reads
 use Rattle.decide.proofs.flagged.Reads as flagged-reads
 use Rattle.decide.proofs.not_done.Reads as not-done-reads
 use Rattle.decide.proofs.weak.Reads as weak-reads
-use Rattle.step.proofs.filling.Reads as filling-reads
+use Rattle.words.proofs.filling.Reads as filling-reads
 use Rattle.resume.proofs.frame.Reads as frame-reads
 use Rattle.resume.proofs.no_trait.Reads as no-trait-reads
 use Rattle.resume.proofs.onward.Reads as onward-reads

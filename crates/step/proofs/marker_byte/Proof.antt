@@ -1,14 +1,14 @@
 -- Made by proofs.py from answers/marker_byte.txt: change that file, not this one.
--- answers ac6306c3196b proof f0ba70272bbb
+-- answers 9d69bd8e6fc5 proof 7244aa9303d3
 use native.Mathlib.Omega.{arith}
 use mathlib.Core.Path.{refl, sym, ap, _∙_}
 use Rattle.rows.specs.Memory.{openLimit}
-use Rattle.decide.specs.Held.{begunOf}
+use Rattle.decide.specs.Outcomes.{begunOf}
 use Rattle.format.specs.Step.{act}
-use Rattle.resume.specs.Held.{afterOf}
+use Rattle.resume.specs.Steps.{afterOf}
 use Rattle.resume.proofs.Decided.{gave-marker, stop-marker}
 use Rattle.resume.proofs.Refusals.{refuses}
-use Rattle.resume.proofs.Frames.{length-frames}
+use Rattle.states.proofs.Frames.{length-frames}
 use Rattle.step.proofs.Markers.{marker-open}
 use borrow.Author.Needs.{needs}
 use Rattle.step.proofs.marker_byte.Statement.{statement}

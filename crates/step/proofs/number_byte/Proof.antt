@@ -1,10 +1,10 @@
 -- Made by proofs.py from answers/number_byte.txt: change that file, not this one.
--- answers dee7dec4ec57 proof 400a62b869f4
+-- answers c1292470c46c proof 605c13dc413a
 use native.Mathlib.Omega.{arith}
 use mathlib.Core.Path.{refl, sym, _∙_}
 use Rattle.wire.proofs.Big.{digit-within}
 use Rattle.format.specs.Step.{act}
-use Rattle.resume.proofs.Purposes.{number-work}
+use Rattle.states.proofs.Purposes.{number-work}
 use Rattle.resume.proofs.Refusals.{refuses}
 use Rattle.resume.proofs.Settled.{waits}
 use Rattle.step.proofs.Parts.{number-astray, number-waits}

@@ -1,7 +1,7 @@
 -- Made by proofs.py from answers/number_done.txt: change that file, not this one.
--- answers f9da06e1cecf proof 9408f1837209
+-- answers da96fd148136 proof bde0165ad45c
 use mathlib.Core.Path.{ap, _∙_}
-use Rattle.decide.specs.Held.{doneOf}
+use Rattle.decide.specs.Outcomes.{doneOf}
 use Rattle.resume.proofs.Decided.{gave-numbered, stop-numbered, gave-date, stop-date}
 use Rattle.resume.proofs.Settled.{refuses-rows, same}
 use Rattle.resume.proofs.Amounts.{double-done, date-done}

@@ -1,8 +1,8 @@
 -- Made by proofs.py from answers/raw_byte.txt: change that file, not this one.
--- answers 98dd8138627e proof a42516b44526
+-- answers 61e40132793d proof 175f09fc6d48
 use mathlib.Core.Path.{refl, sym, ap, _∙_}
-use Rattle.decide.specs.Held.{doneOf}
-use Rattle.resume.specs.Held.{afterOf}
+use Rattle.decide.specs.Outcomes.{doneOf}
+use Rattle.resume.specs.Steps.{afterOf}
 use Rattle.resume.proofs.Decided.{gave-stored, stop-stored}
 use Rattle.resume.proofs.Refusals.{refuses}
 use Rattle.step.proofs.Raws.{raw-stored, raw-filling, gave-grown-by, stop-grown-by}
@@ -13,7 +13,7 @@ use Rattle.step.proofs.raw_byte.Reads as reads
 use Rattle.step.proofs.raw_byte.Lts as lts
 use Rattle.decide.proofs.not_done.Reads as not-done-reads
 use Rattle.decide.proofs.stored.Reads as stored-reads
-use Rattle.step.proofs.filling.Reads as filling-reads
+use Rattle.words.proofs.filling.Reads as filling-reads
 use Rattle.step.proofs.raw_grown.Reads as raw-grown-reads
 
 stored-requires : tie.Need-stored-requires

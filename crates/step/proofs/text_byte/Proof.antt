@@ -1,8 +1,8 @@
 -- Made by proofs.py from answers/text_byte.txt: change that file, not this one.
--- answers a95c7a2427e7 proof abc72628be31
+-- answers 19bfca8aa1f8 proof 02c51abfc891
 use mathlib.Core.Path.{refl, sym, ap, _∙_}
-use Rattle.decide.specs.Held.{doneOf}
-use Rattle.resume.specs.Held.{afterOf}
+use Rattle.decide.specs.Outcomes.{doneOf}
+use Rattle.resume.specs.Steps.{afterOf}
 use Rattle.resume.proofs.Decided.{gave-stored, stop-stored}
 use Rattle.resume.proofs.Refusals.{refuses}
 use Rattle.resume.proofs.Settled.{waits}

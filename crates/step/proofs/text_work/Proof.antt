@@ -1,5 +1,5 @@
 -- Made by proofs.py from answers/text_work.txt: change that file, not this one.
--- answers eb1b01a7a940 proof 640dc3df3dc8
+-- answers eb1b01a7a940 proof 071f449366d4
 use mathlib.Core.Path.{sym, _∙_}
 use borrow.Author.Tests.{ne-eqb}
 use Rattle.format.specs.Numbers.{workOf}
@@ -9,7 +9,7 @@ use Rattle.step.proofs.text_work.Tie as tie
 use Rattle.step.proofs.text_work.Reads as reads
 use Rattle.step.proofs.text_work.Lts as lts
 use Rattle.resume.proofs.row_work.Reads as row-work-reads
-use Rattle.step.proofs.use_work.Reads as use-work-reads
+use Rattle.words.proofs.use_work.Reads as use-work-reads
 
 row-work-requires : tie.Need-row-work-requires
 row-work-requires c κs = search needs

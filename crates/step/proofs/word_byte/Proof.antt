@@ -1,5 +1,5 @@
 -- Made by proofs.py from answers/word_byte.txt: change that file, not this one.
--- answers d637be6c8fb1 proof 128aa5154090
+-- answers d637be6c8fb1 proof 62ca69aa1c9d
 use native.Mathlib.Omega.{arith}
 use mathlib.Core.Path.{refl, sym, _∙_}
 use Rattle.wire.proofs.U29.{part-within}
@@ -14,7 +14,7 @@ use Rattle.step.proofs.word_byte.Reads as reads
 use Rattle.step.proofs.word_byte.Lts as lts
 use Rattle.decide.proofs.lost.Reads as lost-reads
 use Rattle.step.proofs.word_work.Reads as word-work-reads
-use Rattle.step.proofs.worded.Reads as worded-reads
+use Rattle.words.proofs.worded.Reads as worded-reads
 use Rattle.wire.proofs.u29_byte.Reads as u29-byte-reads
 
 u29-byte-requires : tie.Need-u29-byte-requires

@@ -1,9 +1,9 @@
 -- Made by proofs.py from answers/word_work.txt: change that file, not this one.
--- answers 21768b628eda proof ad24963a7ea5
+-- answers 2eb073797bc4 proof af6b60a4fddf
 use mathlib.Core.Path.{sym, _∙_}
 use Rattle.format.specs.Step.{atWord}
 use Rattle.format.specs.Numbers.{noWork, workOf}
-use Rattle.resume.proofs.Purposes.{low-word, high-word}
+use Rattle.states.proofs.Purposes.{low-word, high-word}
 use borrow.Author.Needs.{needs}
 use Rattle.step.proofs.word_work.Statement.{statement}
 use Rattle.step.proofs.word_work.Tie as tie
@@ -11,7 +11,7 @@ use Rattle.step.proofs.word_work.Reads as reads
 use Rattle.step.proofs.word_work.Lts as lts
 use Rattle.resume.proofs.no_span.Reads as no-span-reads
 use Rattle.resume.proofs.row_work.Reads as row-work-reads
-use Rattle.step.proofs.use_work.Reads as use-work-reads
+use Rattle.words.proofs.use_work.Reads as use-work-reads
 
 no-span-requires : tie.Need-no-span-requires
 no-span-requires c κs = search needs

@@ -1,0 +1,9 @@
+pub mod Copies
+pub mod Does
+pub mod Ends
+pub mod Loops
+pub mod Reserves
+pub mod Sizes
+pub mod Stays
+pub mod Then
+pub mod Words

@@ -1,0 +1,6 @@
+pub mod Frames
+pub mod Purposes
+pub mod Modes
+pub mod Works
+pub mod Depths
+pub mod Lengths
