@@ -5,7 +5,7 @@ use Prim.Native.Nat.{ℕ}
 use Rattle.rows.specs.Memory.{Memory}
 use Rattle.format.specs.Numbers.{Numbers}
 use Rattle.feed.specs.declared.State.{State}
-use Rattle.feed.specs.Held.{stateNumbers}
+use Rattle.feed.specs.Calls.{stateNumbers}
 use Rattle.pinebuckle.specs.declared.Coded.{Coded}
 use Rattle.pinebuckle.specs.Coding.{Passed, passed, Left, left, Wrote, put}
 

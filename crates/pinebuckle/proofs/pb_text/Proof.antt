@@ -1,7 +1,7 @@
 -- Made by proofs.py from answers/pb_text.txt: change that file, not this one.
--- answers c54c731ba791 proof 3feaa438bc04
+-- answers 4da16f2a12ac proof a14f76c8f97f
 use mathlib.Core.Path.{sym, ap, _∙_}
-use Rattle.text.specs.Held.{foundOf}
+use Rattle.text.specs.Found.{foundOf}
 use Rattle.pinebuckle.specs.Coding.{spanCode}
 use borrow.Author.Needs.{needs}
 use Rattle.pinebuckle.proofs.pb_text.Statement.{statement}
