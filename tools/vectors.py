@@ -1,5 +1,5 @@
 #!/usr/bin/env python3
-"""Makes the vectors of the program `vectors`, and what it has to print: crates/vectors/data/vectors.txt and crates/vectors/stdout.
+"""Makes the lists examples.txt, readings.txt and writings.txt of tests/lists, which tests/vectors.c holds the calls to.
 
     python3 tools/vectors.py FOLDER
 
@@ -17,21 +17,32 @@ import sys
 WIDTHS = [12, 1, 2, 1, 5, 2]  # numbers of an entry of each loan
 ROOMY = 512  # room for any finished reading, written again
 
-HEADER = """\
-# Made by tools/vectors.py. Each line has a kind, what is asked, and the answer, in hexadecimal. A LIST is how many numbers, then they.
-# reading MESSAGE, the lengths of the six loans, NO TOLD PLACE TAKEN, and what is used of each loan afterwards: LIST BYTES LIST LIST LIST LIST
-# example: the same, for the examples of document 01
-# waiting: the same, where a feed of the message waits after its last byte
-# written ROWS STORE ROOM NO TOLD PLACE BYTES, for the rows and the store of each finished reading; ROWS is a LIST
-# writing ROWS STORE ROOM NO TOLD PLACE BYTES
-# NO is 0 where nothing is refused, and TOLD and PLACE are 0 where nothing is told. BYTES may be none. A refused reading has taken and used nothing.
+# The first lines of each list: where it comes from, the command, and the form of its lines.
+ORIGINS = {
+    "examples": "The examples of document 01, which stand in tools/vectors.py.",
+    "readings": "Readings and feeds that wait, from an executable model of document 01.",
+    "writings": "Writings, from an executable model of document 01.",
+}
+
+COMMAND = """\
+# Made by python3 tools/vectors.py FOLDER, where FOLDER has the model's readings.jsonl and writings.jsonl. Tried by tests/vectors.c.
+# Each line has a kind, what is asked, and the answer, in hexadecimal. A LIST is how many numbers, then they.
 """
 
-TALLIES = ["reading", "reading fed", "example", "example fed", "waiting", "written", "writing"]  # by the kind of line that each begins with
+FORMS = {
+    "reading": "reading MESSAGE, the lengths of the six loans, NO TOLD PLACE TAKEN, and what is used of each loan afterwards: LIST BYTES LIST LIST LIST LIST",
+    "example": "example MESSAGE, the lengths of the six loans, NO TOLD PLACE TAKEN, and what is used of each loan afterwards: LIST BYTES LIST LIST LIST LIST",
+    "waiting": "waiting: the same, where a feed of the message waits after its last byte",
+    "written": "written ROWS STORE ROOM NO TOLD PLACE BYTES, for the rows and the store of each finished reading; ROWS is a LIST",
+    "writing": "writing ROWS STORE ROOM NO TOLD PLACE BYTES; ROWS is a LIST",
+}
+
+ANSWERS = "NO is 0 where nothing is refused, and TOLD and PLACE are 0 where nothing is told. BYTES may be none. A refused reading has taken and used nothing."
 
 # ---- the examples of document 01
 
 LENT = [64, 256, 16, 64, 8, 16]
+DEEPER = [80, 256, 16, 80, 8, 16]  # with room for more values than may be open
 NONE = {"rows": [], "store": "", "strings": [], "objects": [], "traits": [], "names": []}
 DYNAMIC = [0, 0, 1, 0, 0]  # a trait with no class and no names
 
@@ -48,8 +59,8 @@ def finished(message, taken, rows, **used):
     return gives(message, taken, LENT, {**NONE, "rows": rows, **used})
 
 
-def refused(message, no, place, told=0):
-    return {"hex": message, "loans": LENT, "no": no, "told": told, "place": place, **NONE}
+def refused(message, no, place, told=0, loans=LENT):
+    return {"hex": message, "loans": loans, "no": no, "told": told, "place": place, **NONE}
 
 
 def integer(n):
@@ -78,6 +89,7 @@ EXAMPLES = [
     refused("080180" + 7 * "00", 7, 10, told=2**63),
     finished(63 * "090301" + "090101", 192, [*(63 * [row(9, 64, counts=(0, 1))]), row(9, 64)], objects=list(range(64))),
     refused(64 * "090301" + "01", 9, 193),
+    refused(64 * "090301" + "01", 9, 193, loans=DEEPER),
 ]
 
 WAITING_EXAMPLE = gives("0905010603", 5, LENT, {**NONE, "rows": [row(9, 0), row(6, 0, text=(0, 1))], "store": "00", "objects": [0]})
@@ -116,21 +128,35 @@ def accepted(message):
     return {"no": 0, "told": 0, "place": 0, "hex": message}
 
 
+def unlike(lines):
+    return list(dict.fromkeys(lines))
+
+
+def put(name, kinds):
+    """Writes a list: its first lines, and the lines of each kind."""
+    comments = [ORIGINS[name], *(FORMS[kind] for kind in kinds), ANSWERS]
+    first, *others = (f"# {comment}\n" for comment in comments)
+    path = pathlib.Path(__file__).resolve().parent.parent / "tests" / "lists" / f"{name}.txt"
+    path.write_text(first + COMMAND + "".join(others) + "".join(line + "\n" for lines in kinds.values() for line in lines))
+
+
 def main():
     folder = pathlib.Path(sys.argv[1])
     readings, writings = ([json.loads(line) for line in open(folder / name)] for name in ("readings.jsonl", "writings.jsonl"))
     waiting = [gives(v["hex"][: 2 * n], n, v["loans"], w) for v in readings for n, w in enumerate(v["waiting"], 1)]
-    kinds = {
-        "reading": [reading("reading", v) for v in readings],
+    put("examples", {
         "example": [reading("example", v) for v in EXAMPLES],
-        "waiting": list(dict.fromkeys(reading("waiting", v) for v in [*waiting, WAITING_EXAMPLE])),
+        "waiting": [reading("waiting", WAITING_EXAMPLE)],
+        "writing": [writing("writing", rows, store, ROOMY, accepted(message)) for rows, store, message in WRITTEN_EXAMPLES],
+    })
+    put("readings", {
+        "reading": [reading("reading", v) for v in readings],
+        "waiting": unlike(reading("waiting", v) for v in waiting),
+    })
+    put("writings", {
         "written": [writing("written", v["rows"], v["store"], ROOMY, v["written"]) for v in readings if v["no"] == 0],
-        "writing": [writing("writing", v["rows"], v["store"], v["room"], v) for v in writings]
-        + [writing("writing", rows, store, ROOMY, accepted(message)) for rows, store, message in WRITTEN_EXAMPLES],
-    }
-    crate = pathlib.Path(__file__).resolve().parent.parent / "crates" / "vectors"
-    (crate / "data" / "vectors.txt").write_text(HEADER + "".join(line + "\n" for lines in kinds.values() for line in lines))
-    (crate / "stdout").write_text("".join(f"{name} {len(kinds[name.split()[0]])} right, 0 wrong\n" for name in TALLIES))
+        "writing": [writing("writing", v["rows"], v["store"], v["room"], v) for v in writings],
+    })
 
 
 main()

@@ -1,4 +1,4 @@
-//! A fixed list of messages with the crate's answers, for a program that replays them. README.md has its form.
+//! A fixed list of messages with the crate's answers, tests/lists/replay.txt, which tests/vectors.c replays. README.md has its form.
 
 use crate::calls::Loans;
 use crate::inputs::{damaged, date_bits, Random, TEXT_EDGES};
@@ -6,7 +6,7 @@ use crate::published::{self, Published};
 use crate::{hex, made, text_in, trees};
 use std::collections::BTreeSet;
 
-/// Entries that the replay lends of each loan. Messages that need more are not in the list.
+/// Entries that tests/vectors.c lends of each loan. Messages that need more are not in the list.
 const LENT: [usize; 6] = [256, 4_096, 256, 256, 64, 256];
 
 /// The most bytes of a message in the list, and of what is written of it.
@@ -14,7 +14,7 @@ const MESSAGE_MOST: usize = 160;
 const WRITTEN_MOST: usize = 400;
 
 const HEADER: &str = "\
-# Made by tools/compare/run --list from the answers of the crate amf 1.0.0. Numbers and bytes are hexadecimal.
+# Answers of the crate amf 1.0.0. Made by tools/compare/run --list tests/lists/replay.txt. Tried by tests/vectors.c. Numbers and bytes are hexadecimal.
 # finished MESSAGE TAKEN WRITTEN: the crate reads a value from TAKEN bytes, and writes it as WRITTEN
 # unwritten MESSAGE TAKEN: the same, but the value has a date over 2^53 milliseconds, which the writer refuses by 14
 # refused MESSAGE NO TOLD PLACE: the crate's error, its value or 0, and the bytes that it had taken; MESSAGE may be none
