@@ -1,7 +1,7 @@
 -- Tests: both cases of one, and what two joined say of each.
 use mathlib.Core.Path.{_≡_, refl}
 use mathlib.Core.Bool.{Bool, true, false, cond, not, _&&_, _||_}
-use Prim.Native.Nat.{ℕ}
+use Prim.Native.Nat.{ℕ, suc, _-_, _<_}
 use native.Mathlib.Omega.{arith}
 use lib.Dec.{T, eqb}
 
@@ -33,3 +33,7 @@ flag-back false = refl
 pub or-true : (t : Bool) → (t || true) ≡ true
 or-true true = refl
 or-true false = refl
+
+-- one less is left
+pub one-less : (n i : ℕ) → i < n → n - i ≡ suc (n - suc i)
+one-less n i h = omega arith

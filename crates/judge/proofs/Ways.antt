@@ -15,14 +15,12 @@ use Rattle.judge.specs.declared.Walked.the-variants.{Closed, Broken}
 use Rattle.judge.specs.Pass.{rowFits, rowWritable, capped, givesBy, isWrong, isEmpty, lower, walk, walkOf, pass, passed}
 use Rattle.judge.proofs.Leasts.{walk-capped}
 use Rattle.judge.proofs.Passing.{passed-is}
+use Rattle.format.proofs.Tests.{one-less}
 
 -- ---- a loop of which i of n turns are done
 
 none-left : (n i : ℕ) → n ≤ i → n - i ≡ 0
 none-left n i h = omega arith
-
-one-less : (n i : ℕ) → i < n → n - i ≡ suc (n - suc i)
-one-less n i h = omega arith
 
 -- ---- the children
 

@@ -17,14 +17,12 @@ use Rattle.scan.proofs.Then.{then, refused, passed, returned}
 use Rattle.format.specs.Refusals as refusals
 use Rattle.format.proofs.Lengths.{SameLengths, same-lengths}
 use Rattle.rows.specs.Memory.{messageMost}
+use Rattle.format.proofs.Tests.{one-less}
 
 -- ---- numbers
 
 none-left : (n i : ℕ) → n ≤ i → n - i ≡ 0
 none-left n i h = omega arith
-
-one-less : (n i : ℕ) → i < n → n - i ≡ suc (n - (i + 1))
-one-less n i h = omega arith
 
 from-zero : (n : ℕ) → n - 0 ≡ n
 from-zero n = omega arith
@@ -58,7 +56,7 @@ module _ {one : ℕ → Reader Unit} {row col n : ℕ} {s : List ℕ} {m₀ : Me
   module _ (l : i < n) where
     entries-next : reads (one i >> by (onRows (counted row col i)) >> entries one row col (n - (i + 1)) (i + 1)) m c s ≡ reads (entries one row col n 0) m₀ c₀ s
     unfolding entries
-    entries-next = rw add-one (rw (one-less n i l, add-one) at (h .left))
+    entries-next = rw add-one (rw (one-less n i l) at (h .left))
 
     -- an entry is refused
     pub entries-stop : (m₁ : Memory) (o : Out Unit Unit) (y : Refusal) → o ≡ stopped y → result o m₁ s ≡ reads (one i) m c s → result o m₁ s ≡ reads (entries one row col n 0) m₀ c₀ s
@@ -97,7 +95,7 @@ module _ {value : Values} {row col : ℕ} {s : List ℕ} {m₀ : Memory} {c₀ :
   module _ (l : i < messageMost) where
     pairs-next : reads (text plain >>= (λ p. pair value row col i (pairs value row col (messageLimit - (i + 1)) (i + 1)) p (p .size))) m c s ≡ reads (pairs value row col messageLimit 0) m₀ c₀ s
     unfolding pairs
-    pairs-next = rw add-one (rw (one-less messageLimit i (rw limit l), add-one) at (h .left))
+    pairs-next = rw add-one (rw (one-less messageLimit i (rw limit l)) at (h .left))
 
     module _ (m₁ : Memory) (o : Out Unit Span) (e : result o m₁ s ≡ reads (text plain) m c s) where
       -- a key is refused

@@ -69,8 +69,8 @@ word-is f R B k n l (suc m) = rw (pairs-count f R B k n, ne-eqb (suc m) 0 (λ z.
 
 -- ---- the loops
 
-one-less : (m : ℕ) → 0 < m → m ≡ suc (m - 1)
-one-less m h = omega arith
+some-left : (m : ℕ) → 0 < m → m ≡ suc (m - 1)
+some-left m h = omega arith
 
 none-left : (m : ℕ) → m ≤ 0 → m ≡ 0
 none-left m h = omega arith
@@ -83,7 +83,7 @@ module _ (l : ℕ) (dry : Bool) (R B : List ℕ) (k m p : ℕ) (O : List ℕ) {x
 
     first-item : 0 < m → run dry (valueAt l R B k then itemsAt l R B (col R k colEnd) (m - 1)) p O ≡ x
     unfolding emitTrees treesAt
-    first-item h = rw (one-less m h) at I
+    first-item h = rw (some-left m h) at I
 
     pub items-stop : {P : List ℕ} {a : Put} {n q : ℕ} → 0 < m → ran a P ≡ run dry (valueAt l R B k) p O → a ≡ Stop n q → ran a P ≡ x
     items-stop h e g = then-stop _ _ dry _ _ e g ∙ first-item h
@@ -99,7 +99,7 @@ module _ (l : ℕ) (dry : Bool) (R B : List ℕ) (k m p : ℕ) (O : List ℕ) {x
 
     first-pair : 0 < m → run dry (these (textBytes (keyText R B k)) then valueAt l R B k then pairingsAt l R B (col R k colEnd) (m - 1)) p O ≡ x
     unfolding emitPairs pairsAt
-    first-pair h = rw (one-less m h) at I
+    first-pair h = rw (some-left m h) at I
 
     module _ (h : 0 < m) {P : List ℕ} {b : Put} (e : ran b P ≡ run dry (these (textBytes (keyText R B k))) p O) where
       pub pairs-key : {n q : ℕ} → b ≡ Stop n q → ran b P ≡ x
@@ -119,7 +119,7 @@ module _ (f : ℕ → Tree) (dry : Bool) (R B : List ℕ) (k m p : ℕ) (O : Lis
 
   first-name : 0 < m → run dry (these (textBytes (keyText R B k) ++ namesAt f R B (col R k colEnd) (m - 1))) p O ≡ x
   unfolding nameBytes pairsAt
-  first-name h = rw (one-less m h) at I
+  first-name h = rw (some-left m h) at I
 
   pub names-stop : {P : List ℕ} {a : Put} {n q : ℕ} → 0 < m → ran a P ≡ run dry (these (textBytes (keyText R B k))) p O → a ≡ Stop n q → ran a P ≡ x
   names-stop h e g = join-stop _ _ dry _ _ e g ∙ first-name h
