@@ -121,7 +121,7 @@ abbrev pub setObject : ℕ → Tree → Tables → Tables
 setObject i t s = record { texts = s .texts; objects = set (s .objects) i (some t); traits = s .traits }
 
 -- place i of a table with one entry more is an old one, or the new one
-at-end : {A : Type 0} (d y : A) (xs : List A) (n i : ℕ) (P : ℕ → A → Type 0) → n ≡ length xs → (i < n → P i (getD xs i d)) → P n y → i < n + 1
+pub at-end : {A : Type 0} (d y : A) (xs : List A) (n i : ℕ) (P : ℕ → A → Type 0) → n ≡ length xs → (i < n → P i (getD xs i d)) → P n y → i < n + 1
     → P i (getD (xs ++ y ∷ []) i d)
 at-end d y xs n i P e old new h = last-or n i (λ i. P i (getD (xs ++ y ∷ []) i d)) (λ l. let k : i < length xs = omega arith in rw List·getD-append (old l))
     (let w : getD (xs ++ y ∷ []) n d ≡ y = rw (e, getD-append-seam) in rw w new) h

@@ -1,12 +1,12 @@
--- Feeding is reading: the bytes one by one, and then the end, give what the whole reading gives.
--- `sem s` is what a state still has to read. One byte of it is one step, and where there is no byte it is the end.
-use mathlib.Core.Path.{_≡_, refl, sym, _∙_}
-use mathlib.Core.Bool.{Bool, cond}
+-- Feeding is reading: the bytes one by one, and then the end, give what the whole reading gives. While it waits the loans hold what the bytes give.
+-- `sem s` is what a state still has to read. One byte of it is one step, and where there is no byte it stops, and leaves the loans as they are.
+use mathlib.Core.Path.{_≡_, refl, sym, ap, _∙_}
+use mathlib.Core.Bool.{Bool, true, false, cond, not}
 use mathlib.Core.List.{List, [], _∷_}
 use Prim.Native.Nat.{ℕ, zero, suc, _+_, _*_, _-_, _/_, _^_}
 use native.Mathlib.Omega.{arith}
-use lib.Dec.{leb, ltb}
-use lib.ListN.{length}
+use lib.Dec.{leb, ltb, eqb}
+use lib.ListN.{length, length-replicate}
 use borrow.Author.Tests.{leb-true, leb-false}
 use Rattle.rows.specs.declared.Cursor.{Cursor}
 use Rattle.rows.specs.declared.Span.{Span}
@@ -23,33 +23,40 @@ use Rattle.wire.specs.U29.{partOf}
 use Rattle.wire.specs.Word.{sizeOf, shapeOf}
 use Rattle.wire.specs.Big.{digitOf}
 use Rattle.format.specs.declared.Frame.{Frame}
-use Rattle.format.specs.Decide.{Out, stop, give, refuse, lost, looking, onRows, onStrings, onTraits, onNames}
-use Rattle.format.specs.Decide.{Body, xml, date, array, bytes, raw, objects, dictionary, Kind, leaf, integer, double, string, object, sized}
-use Rattle.format.specs.Decide.{marker, closed, numbered, integerEnd, dateEnd, bodied, vectorClass, fixed, weak, flagged}
-use Rattle.format.specs.Decide.{counted, judged, textEnd, traitOf, named, traitEnd, sealedKey, starred}
-use Rattle.format.specs.Reading.{ok, bad, bind, _>>=_, _>>_, ret, Result, Reader, decided, by, byte, u29, number, chars, fill, textOf, text, plain}
-use Rattle.format.specs.Reading.{Values, entries, pair, pairs, names, dynamics as dynamicsOf, members as membersRead, inlined, objectOf, room, charsOf}
-use Rattle.format.specs.Reading.{filled, newOf, sizedOf, marked, value, Ended, finished, refusal, ended, unlessFault, reading, onPart as partRead}
-use Rattle.format.specs.Step.{Pairing, assoc, dynamics, dense, vector, countOf, Task, pairsOf, itemsOf, membersOf, keysOf, valuesOf, strange}
-use Rattle.format.specs.Step.{taskOf, frameOf, Use}
-use Rattle.format.specs.Step.{forString, forKey, forClass, forExternal, forName, forVector, Text, xmlText, tableText, Word, integerWord, objectWord}
-use Rattle.format.specs.Step.{sizeWord, textWord, Number, doubleBits, dateBits, Flag, rawFlag, objectsFlag, dictionaryFlag, Raw, rawVector}
-use Rattle.format.specs.Step.{Mode, atMarker, atWord, atNumber, atFlag, atText, atRaw, astray, State, wait, over, none, on, atString, nextKey}
-use Rattle.format.specs.Step.{go, entry, pop, onward, keyed, members, naming, had, textDone, reservedFor, stringSized, roomy, texting, rawRow}
-use Rattle.format.specs.Step.{filling, opened, bodySized, objectShaped, worded, numberDone, flagDone, rawGrown, begun, onPart, act, step, run, end}
-use Rattle.format.specs.Step.{beginAt, begin}
-use Rattle.format.proofs.Tests.{on-bool}
-use Rattle.rows.specs.Memory.{rowWidth}
+use Rattle.format.specs.Decide.{Out, stop, give, refuse, lost, lift, looking, onRows, onStrings, onTraits, onNames, Body, xml, date, array, bytes, raw}
+use Rattle.format.specs.Decide.{objects, dictionary, Kind, leaf, integer, double, string, object, sized, marker, closed, numbered, integerEnd, dateEnd}
+use Rattle.format.specs.Decide.{bodied, vectorClass, fixed, weak, flagged, counted, judged, textEnd, traitOf, named, traitEnd, sealedKey, starred}
+use Rattle.format.specs.Decide.{objectClass, oldText, reserved, stored, entered, referred, oldTrait}
+use Rattle.format.specs.Reading.{refusal, ended, reading, taken, ok, bad, bind, _>>=_, _>>_, ret, Result, Reader, decided, by, byte, u29, number, chars}
+use Rattle.format.specs.Reading.{fill, textOf, text, plain, Values, entries, pair, pairs, names, dynamics as dynamicsOf, members as membersRead}
+use Rattle.format.specs.Reading.{inlined, objectOf, room, charsOf, filled, newOf, sizedOf, marked, value, Ended, finished, refused, onPart as partRead}
+use Rattle.format.specs.Step.{Pairing, assoc, dynamics, dense, vector, countOf, Task, pairsOf, itemsOf, membersOf, keysOf, valuesOf, strange, taskOf}
+use Rattle.format.specs.Step.{frameOf, Use, forString, forKey, forClass, forExternal, forName, forVector, Text, xmlText, tableText, Word, integerWord}
+use Rattle.format.specs.Step.{objectWord, sizeWord, textWord, Number, doubleBits, dateBits, Flag, rawFlag, objectsFlag, dictionaryFlag, Raw, rawVector}
+use Rattle.format.specs.Step.{Mode, atMarker, atWord, atNumber, atFlag, atText, atRaw, astray, State, wait, over, none, on, atString, nextKey, go}
+use Rattle.format.specs.Step.{entry, pop, onward, keyed, members, naming, had, textDone, reservedFor, stringSized, roomy, texting, rawRow, filling}
+use Rattle.format.specs.Step.{opened, bodySized, objectShaped, worded, numberDone, flagDone, rawGrown, begun, onPart, act, step, run, begin, end}
+use Rattle.format.proofs.Tests.{on-bool, clash}
+use Rattle.format.proofs.Placed.{Placed, placed-act, Says, unknown, absent, unfinished, external, undated, malformed, deep, full, astrays, says-closed}
+use Rattle.format.proofs.Placed.{says-numbered, says-integer, says-date, says-bodied, says-object, says-vector, says-flagged, says-counted}
+use Rattle.format.proofs.Placed.{says-referred, says-marker, says-old-text, says-reserved, says-stored, says-judged, says-text-end, says-entered}
+use Rattle.format.proofs.Placed.{says-old-trait, says-named, says-trait-end, says-sealed, says-starred, says-use, says-raw}
+use Rattle.format.proofs.Placed as placed
 use Rattle.format.specs.Refusals as refusals
+use Rattle.rows.specs.Memory.{rowWidth}
 
 -- ---- what is done after a reader
 
 abbrev Cont : Type 0 → Type 0
-Cont A = A → Memory → Cursor → List ℕ → Ended
+Cont A = A → Memory → Cursor → List ℕ → Result Unit
 
-abbrev andThen : {A : Type 0} → Result A → Cont A → Ended
+-- a refusal zeroes the loans, but for 2
+abbrev stopped : ℕ → ℕ → ℕ → Memory → Result Unit
+stopped n told place m = bad n told place (cond (eqb n refusals.unexpectedEnd) m (zeroed m))
+
+abbrev andThen : {A : Type 0} → Result A → Cont A → Result Unit
 andThen (ok a m c bs) k = k a m c bs
-andThen (bad n told place m) k = refusal n told place m
+andThen (bad n told place m) k = stopped n told place m
 
 -- a reader after a reader
 flat : {A B : Type 0} (v : Result A) (f : A → Reader B) (k : Cont B) → andThen (bind v f) k ≡ andThen v (λ a m c bs. andThen (f a m c bs) k)
@@ -130,7 +137,7 @@ afterUse : Values → Use → Span → Reader Unit
 afterUse rd (forString row) s = by (onRows (bodied row s)) >> close row
 afterUse rd (forKey p) s = afterKey rd p s (s .size)
 afterUse rd (forClass row n y) s = λ m c. inlined rd row (traitOf s n y c) m c
-afterUse rd forExternal s = by (λ m c. refuse 6 0 c)
+afterUse rd forExternal s = by (λ m c. refuse refusals.externalizable 0 c)
 afterUse rd (forName row t n) s = by (onNames (named s)) >> namesLeft rd row t n
 afterUse rd (forVector row n) s =
     by (looking (λ m. starred s (m .store))) >>= (λ star. by (onRows (vectorClass row star s)) >> items rd row colCount n 0 >> close row)
@@ -163,7 +170,7 @@ afterFlag rd (dictionaryFlag row n) b = by (onRows (flagged row (weak b))) >> do
 
 -- what the frames around still have to read, when a value of theirs is finished
 rest : List Frame → Cont Unit
-rest [] = λ x m c bs. finished c m
+rest [] = λ x m c bs. ok tt m c []
 rest (f ∷ ts) = λ x m c bs. andThen (counts (taskOf f) m c bs) (λ t m c bs. andThen (task (inner ts) t m c bs) (rest ts))
 
 -- what a mode still has to read of its value
@@ -176,24 +183,156 @@ left (atText x s n t) ts = chars s n t >>= afterText (inner ts) x s
 left (atRaw r s n) ts = fill (growing r s) s n >> close (rawRow r)
 left astray ts = byte >>= (λ b. by (λ m c. lost))
 
-sem : State → List ℕ → Ended
-sem (over e) bs = e
-sem (none m) bs = refusal refusals.lost 0 0 m
+-- what has ended, as a result
+abbrev outcome : Ended → Result Unit
+outcome (finished c m) = ok tt m c []
+outcome (refused n told place m) = bad n told place m
+
+sem : State → List ℕ → Result Unit
+sem (over e) bs = outcome e
+sem (none m) bs = bad refusals.lost 0 0 (zeroed m)
 sem (wait x ts c m) bs = andThen (left x ts m c bs) (rest ts)
 
--- ---- one law for every decision
+-- ---- one law for every decision, of which none says 2
 
-sem-on : {A : Type 0} (o : Out Memory A) (m : Memory) (f : A → Cursor → Memory → State) (bs : List ℕ)
+calm? : {S A : Type 0} → Out S A → Bool
+calm? (stop n told place) = not (eqb n refusals.unexpectedEnd)
+calm? (give a s c) = true
+
+calm-says : {S A : Type 0} {b p : ℕ} {o : Out S A} → Says b p o → calm? o ≡ true
+unfolding calm?
+calm-says (placed.stops (unknown h e)) = refl
+calm-says (placed.stops (absent e)) = refl
+calm-says (placed.stops (unfinished e)) = refl
+calm-says (placed.stops (external e)) = refl
+calm-says (placed.stops (undated e)) = refl
+calm-says (placed.stops (malformed e)) = refl
+calm-says (placed.stops (deep e)) = refl
+calm-says (placed.stops (full h e)) = refl
+calm-says (placed.stops astrays) = refl
+calm-says (placed.goes e) = refl
+
+calm-lift : {S A : Type 0} (f : S → Memory) (o : Out S A) → calm? (lift f o) ≡ calm? o
+unfolding calm?
+calm-lift f (stop n told place) = refl
+calm-lift f (give a s c) = refl
+
+module _ (c : Cursor) where
+  calm-closed : (row : ℕ) (R : List ℕ) → calm? (closed row R c) ≡ true
+  calm-closed row R = calm-says (says-closed {b = 0} {p = c .at} c refl row R)
+
+  calm-numbered : (row n : ℕ) (R : List ℕ) → calm? (numbered row n R c) ≡ true
+  calm-numbered row n R = calm-says (says-numbered {b = 0} {p = c .at} c refl row n R)
+
+  calm-integer : (row w : ℕ) (R : List ℕ) → calm? (integerEnd row w R c) ≡ true
+  calm-integer row w R = calm-says (says-integer {b = 0} {p = c .at} c refl row w R)
+
+  calm-date : (row bits : ℕ) (R : List ℕ) → calm? (dateEnd row bits R c) ≡ true
+  calm-date row bits R = calm-says (says-date {b = 0} {p = c .at} c refl row bits R)
+
+  calm-bodied : (row : ℕ) (s : Span) (R : List ℕ) → calm? (bodied row s R c) ≡ true
+  calm-bodied row s R = calm-says (says-bodied {b = 0} {p = c .at} c refl row s R)
+
+  calm-class : (row : ℕ) (t : Trait) (R : List ℕ) → calm? (objectClass row t R c) ≡ true
+  calm-class row t R = calm-says (says-object {b = 0} {p = c .at} c refl row t R)
+
+  calm-vector : (row : ℕ) (star : Bool) (s : Span) (R : List ℕ) → calm? (vectorClass row star s R c) ≡ true
+  calm-vector row star s R = calm-says (says-vector {b = 0} {p = c .at} c refl row star s R)
+
+  calm-flagged : (row flag : ℕ) (R : List ℕ) → calm? (flagged row flag R c) ≡ true
+  calm-flagged row flag R = calm-says (says-flagged {b = 0} {p = c .at} c refl row flag R)
+
+  calm-counted : (row col done : ℕ) (R : List ℕ) → calm? (counted row col done R c) ≡ true
+  calm-counted row col done R = calm-says (says-counted {b = 0} {p = c .at} c refl row col done R)
+
+  calm-referred : (row i : ℕ) (O R : List ℕ) → calm? (referred row i O R c) ≡ true
+  calm-referred row i O R = calm-says (says-referred {b = 0} {p = c .at} c refl row i O R)
+
+  calm-marker : (k : Key) (left b : ℕ) (R : List ℕ) → calm? (marker k left b R c) ≡ true
+  calm-marker k left b R = calm-says (says-marker {b = b} {p = c .at} c refl k left R)
+
+  calm-old-text : (i : ℕ) (S : List ℕ) → calm? (oldText i S c) ≡ true
+  calm-old-text i S = calm-says (says-old-text {b = 0} {p = c .at} c refl i S)
+
+  calm-reserved : (n : ℕ) (B : List ℕ) → calm? (reserved n B c) ≡ true
+  calm-reserved n B = calm-says (says-reserved {b = 0} {p = c .at} c refl n B)
+
+  calm-stored : (s : Span) (n b : ℕ) (B : List ℕ) → calm? (stored s n b B c) ≡ true
+  calm-stored s n b B = calm-says (says-stored {b = 0} {p = c .at} c refl s n b B)
+
+  calm-judged : (valid : Bool) → calm? (judged valid c) ≡ true
+  calm-judged valid = calm-says (says-judged {b = 0} {p = c .at} c refl valid)
+
+  calm-text-end : (s : Span) (valid : Bool) (S : List ℕ) → calm? (textEnd s valid S c) ≡ true
+  calm-text-end s valid S = calm-says (says-text-end {b = 0} {p = c .at} c refl s valid S)
+
+  calm-entered : (row : ℕ) (O : List ℕ) → calm? (entered row O c) ≡ true
+  calm-entered row O = calm-says (says-entered {b = 0} {p = c .at} c refl row O)
+
+  calm-old-trait : (i : ℕ) (U : List ℕ) → calm? (oldTrait i U c) ≡ true
+  calm-old-trait i U = calm-says (says-old-trait {b = 0} {p = c .at} c refl i U)
+
+  calm-named : (s : Span) (N : List ℕ) → calm? (named s N c) ≡ true
+  calm-named s N = calm-says (says-named {b = 0} {p = c .at} c refl s N)
+
+  calm-trait-end : (t : Trait) (U : List ℕ) → calm? (traitEnd t U c) ≡ true
+  calm-trait-end t U = calm-says (says-trait-end {b = 0} {p = c .at} c refl t U)
+
+  calm-sealed : (i : ℕ) (N : List ℕ) → calm? (sealedKey i N c) ≡ true
+  calm-sealed i N = calm-says (says-sealed {b = 0} {p = c .at} c refl i N)
+
+  calm-starred : (s : Span) (B : List ℕ) → calm? (starred s B c) ≡ true
+  calm-starred s B = calm-says (says-starred {b = 0} {p = c .at} c refl s B)
+
+calm-use : (u : Use) (s : Span) (c : Cursor) (m : Memory) → calm? (reservedFor u s m c) ≡ true
+calm-use u s c m = calm-says (says-use {b = 0} {p = c .at} [] u s c m refl)
+
+calm-raw : (r : Raw) (s : Span) (n : ℕ) (c : Cursor) (m : Memory) → calm? (rawGrown r s n m c) ≡ true
+calm-raw r s n c m = calm-says (says-raw {b = 0} {p = c .at} r s n c m refl)
+
+ruleset calm = (
+  calm-lift,
+  calm-closed,
+  calm-numbered,
+  calm-integer,
+  calm-date,
+  calm-bodied,
+  calm-class,
+  calm-vector,
+  calm-flagged,
+  calm-counted,
+  calm-referred,
+  calm-marker,
+  calm-old-text,
+  calm-reserved,
+  calm-stored,
+  calm-judged,
+  calm-text-end,
+  calm-entered,
+  calm-old-trait,
+  calm-named,
+  calm-trait-end,
+  calm-sealed,
+  calm-starred,
+  calm-use,
+  calm-raw,
+)
+
+not-true′ : (t : Bool) → not t ≡ true → t ≡ false
+not-true′ true e = clash cc
+not-true′ false e = refl
+
+sem-on : {A : Type 0} (o : Out Memory A) (m : Memory) (f : A → Cursor → Memory → State) (bs : List ℕ) → calm? o ≡ true
     → sem (on o m f) bs ≡ andThen (decided o m bs) (λ a m c bs. sem (f a c m) bs)
-unfolding sem
-sem-on (stop n told place) m f bs = refl
-sem-on (give a m c) _ f bs = refl
+unfolding sem calm?
+sem-on (stop n told place) m f bs e = let q : eqb n refusals.unexpectedEnd ≡ false = not-true′ (eqb n refusals.unexpectedEnd) e in rw q
+sem-on (give a m c) _ f bs e = refl
 
-sem-over : (e : Ended) (bs : List ℕ) → sem (over e) bs ≡ e
+sem-over : (e : Ended) (bs : List ℕ) → sem (over e) bs ≡ outcome e
 unfolding sem
 sem-over e bs = refl
 
-sem-none : (m : Memory) (bs : List ℕ) → sem (none m) bs ≡ refusal refusals.lost 0 0 m
+sem-none : (m : Memory) (bs : List ℕ) → sem (none m) bs ≡ bad refusals.lost 0 0 (zeroed m)
 unfolding sem
 sem-none m bs = refl
 
@@ -241,12 +380,12 @@ module _ (ts : List Frame) where
     unfolding go task entries dynamicsOf counts pairing
     sem-go (pairsOf (assoc row n done)) c m bs = sem-next (assoc row n done) c m bs
     sem-go (pairsOf (dynamics row done)) c m bs = sem-next (dynamics row done) c m bs
-    sem-go (itemsOf i row zero done) c m bs = simp (go, sem-on, h)
+    sem-go (itemsOf i row zero done) c m bs = simp (go, sem-on, calm, h)
     sem-go (itemsOf i row (suc n) done) c m bs = simp (go, sem-child, flat)
-    sem-go (membersOf row zero done first zero) c m bs = simp (go, sem-on, h)
+    sem-go (membersOf row zero done first zero) c m bs = simp (go, sem-on, calm, h)
     sem-go (membersOf row zero done first (suc y)) c m bs = sem-next (dynamics row 0) c m bs ∙ rw none-done
-    sem-go (membersOf row (suc n) done first y) c m bs = simp (go, sem-on, sem-child, flat)
-    sem-go (keysOf row zero done) c m bs = simp (sem-on, h)
+    sem-go (membersOf row (suc n) done first y) c m bs = simp (go, sem-on, calm, sem-child, flat)
+    sem-go (keysOf row zero done) c m bs = simp (sem-on, calm, h)
     sem-go (keysOf row (suc n) done) c m bs = simp (go, sem-child, flat)
     sem-go (valuesOf row n done) c m bs = simp (go, sem-child, flat)
     sem-go strange c m bs = sem-over _ bs
@@ -255,12 +394,12 @@ module _ (ts : List Frame) where
 sem-entry : (t : Task) (c : Cursor) (m : Memory) (f : Task → Cursor → Memory → State) (bs : List ℕ)
     → sem (entry t c m f) bs ≡ andThen (counts t m c bs) (λ t m c bs. sem (f t c m) bs)
 unfolding entry counts
-sem-entry (pairsOf (assoc row n done)) c m f bs = simp (sem-on, flat)
-sem-entry (pairsOf (dynamics row done)) c m f bs = simp (sem-on, flat)
-sem-entry (itemsOf i row n done) c m f bs = simp (sem-on, flat)
-sem-entry (membersOf row n done first y) c m f bs = simp (sem-on, flat)
+sem-entry (pairsOf (assoc row n done)) c m f bs = simp (sem-on, calm, flat)
+sem-entry (pairsOf (dynamics row done)) c m f bs = simp (sem-on, calm, flat)
+sem-entry (itemsOf i row n done) c m f bs = simp (sem-on, calm, flat)
+sem-entry (membersOf row n done first y) c m f bs = simp (sem-on, calm, flat)
 sem-entry (keysOf row n done) c m f bs = refl
-sem-entry (valuesOf row n done) c m f bs = simp (sem-on, flat)
+sem-entry (valuesOf row n done) c m f bs = simp (sem-on, calm, flat)
 sem-entry strange c m f bs = sem-over _ bs
 
 -- a value is finished
@@ -291,56 +430,56 @@ module _ (ts : List Frame) where
       → sem (keyed ts p s n c m) bs ≡ andThen (afterKey (inner ts) p s n m c bs) (rest ts)
   unfolding keyed afterKey pair task pairing counts
   sem-keyed (assoc row n done) s zero c m bs = sem-onward (itemsOf dense row n 0) c m bs
-  sem-keyed (dynamics row done) s zero c m bs = simp (keyed, sem-on, sem-pop)
+  sem-keyed (dynamics row done) s zero c m bs = simp (keyed, sem-on, calm, sem-pop)
   sem-keyed (assoc row n done) s (suc l) c m bs = simp (keyed, sem-child, flat)
   sem-keyed (dynamics row done) s (suc l) c m bs = simp (keyed, sem-child, flat)
 
   sem-naming : (row : ℕ) (t : Trait) (n : ℕ) (c : Cursor) (m : Memory) (bs : List ℕ)
       → sem (naming ts row t n c m) bs ≡ andThen (namesLeft (inner ts) row t n m c bs) (rest ts)
   unfolding naming namesLeft names afterUse reservedFor
-  sem-naming row t zero c m bs = simp (naming, sem-on, sem-members, flat)
+  sem-naming row t zero c m bs = simp (naming, sem-on, calm, sem-members, flat)
   sem-naming row t (suc n) c m bs = sem-use ts (forName row t n) c m bs ∙ simp flat
 
   sem-had : (u : Use) (s : Span) (c : Cursor) (m : Memory) (bs : List ℕ) → sem (had ts u s c m) bs ≡ andThen (afterUse (inner ts) u s m c bs) (rest ts)
   unfolding had afterUse inlined namesLeft task
-  sem-had (forString row) s c m bs = simp (had, sem-on, sem-pop, flat)
+  sem-had (forString row) s c m bs = simp (had, sem-on, calm, sem-pop, flat)
   sem-had (forKey p) s c m bs = sem-keyed p s (s .size) c m bs
-  sem-had (forClass row n y) s c m bs = simp (had, sem-on, sem-naming, flat)
+  sem-had (forClass row n y) s c m bs = simp (had, sem-on, calm, sem-naming, flat)
   sem-had forExternal s c m bs = sem-over _ bs
-  sem-had (forName row t n) s c m bs = simp (had, sem-on, sem-naming, flat)
-  sem-had (forVector row n) s c m bs = simp (had, sem-on, sem-onward, flat)
+  sem-had (forName row t n) s c m bs = simp (had, sem-on, calm, sem-naming, flat)
+  sem-had (forVector row n) s c m bs = simp (had, sem-on, calm, sem-onward, flat)
 
   sem-text : (x : Text) (s : Span) (valid : Bool) (c : Cursor) (m : Memory) (bs : List ℕ)
       → sem (textDone ts x s valid c m) bs ≡ andThen (afterText (inner ts) x s valid m c bs) (rest ts)
   unfolding textDone afterText
-  sem-text (xmlText row) s valid c m bs = simp (textDone, sem-on, sem-pop, flat)
-  sem-text (tableText u) s valid c m bs = simp (textDone, sem-on, sem-had, flat)
+  sem-text (xmlText row) s valid c m bs = simp (textDone, sem-on, calm, sem-pop, flat)
+  sem-text (tableText u) s valid c m bs = simp (textDone, sem-on, calm, sem-had, flat)
 
   -- ---- words
 
   sem-string : (u : Use) (z : Size) (c : Cursor) (m : Memory) (bs : List ℕ)
       → sem (stringSized ts u z c m) bs ≡ andThen (bind (textOf (atUse u) z m c bs) (afterUse (inner ts) u)) (rest ts)
   unfolding stringSized textOf left afterText
-  sem-string u (Old i) c m bs = simp (stringSized, sem-on, sem-had, flat)
+  sem-string u (Old i) c m bs = simp (stringSized, sem-on, calm, sem-had, flat)
   sem-string u (New zero) c m bs = sem-had u noSpan c m bs
-  sem-string u (New (suc n)) c m bs = simp (stringSized, sem-on, sem-wait, flat)
+  sem-string u (New (suc n)) c m bs = simp (stringSized, sem-on, calm, sem-wait, flat)
 
   sem-room : (row n : ℕ) (f : Span → Cursor → Memory → State) (c : Cursor) (m : Memory) (bs : List ℕ)
       → sem (roomy row n c m f) bs ≡ andThen (room row n m c bs) (λ s m c bs. sem (f s c m) bs)
   unfolding roomy room
   sem-room row zero f c m bs = refl
-  sem-room row (suc n) f c m bs = simp (roomy, sem-on, flat)
+  sem-room row (suc n) f c m bs = simp (roomy, sem-on, calm, flat)
 
   sem-texting : (row : ℕ) (s : Span) (n : ℕ) (c : Cursor) (m : Memory) (bs : List ℕ)
       → sem (texting ts row s n c m) bs ≡ andThen (charsOf s n m c bs) (λ valid m c bs. andThen (afterText (inner ts) (xmlText row) s valid m c bs) (rest ts))
   unfolding texting charsOf left afterText judged
-  sem-texting row s zero c m bs = simp (texting, sem-on, sem-pop)
+  sem-texting row s zero c m bs = simp (texting, sem-on, calm, sem-pop)
   sem-texting row s (suc n) c m bs = simp (texting, sem-wait, flat)
 
   sem-filling : (r : Raw) (s : Span) (n : ℕ) (c : Cursor) (m : Memory) (bs : List ℕ)
       → sem (filling ts r s n c m) bs ≡ andThen (filled (growing r s) s n m c bs) (λ x m c bs. andThen (close (rawRow r) m c bs) (rest ts))
   unfolding filling filled left
-  sem-filling r s zero c m bs = simp (filling, sem-on, sem-pop)
+  sem-filling r s zero c m bs = simp (filling, sem-on, calm, sem-pop)
   sem-filling r s (suc n) c m bs = simp (filling, sem-wait, flat)
 
   sem-opened : (row : ℕ) (body : Body) (n : ℕ) (c : Cursor) (m : Memory) (bs : List ℕ)
@@ -357,21 +496,21 @@ module _ (ts : List Frame) where
   sem-body : (row : ℕ) (body : Body) (z : Size) (c : Cursor) (m : Memory) (bs : List ℕ)
       → sem (bodySized ts row body z c m) bs ≡ andThen (sizedOf (inner ts) row body z m c bs) (rest ts)
   unfolding bodySized sizedOf
-  sem-body row body (Old i) c m bs = simp (bodySized, sem-on, sem-pop)
-  sem-body row body (New n) c m bs = simp (bodySized, sem-on, sem-opened, flat)
+  sem-body row body (Old i) c m bs = simp (bodySized, sem-on, calm, sem-pop)
+  sem-body row body (New n) c m bs = simp (bodySized, sem-on, calm, sem-opened, flat)
 
   sem-object : (row : ℕ) (z : Shape) (c : Cursor) (m : Memory) (bs : List ℕ)
       → sem (objectShaped ts row z c m) bs ≡ andThen (objectOf (inner ts) row z m c bs) (rest ts)
   unfolding objectShaped objectOf afterUse reservedFor
-  sem-object row (Object i) c m bs = simp (objectShaped, sem-on, sem-pop)
-  sem-object row (Known i) c m bs = simp (objectShaped, sem-on, sem-members, flat)
-  sem-object row External c m bs = simp (objectShaped, sem-on, sem-use, flat)
-  sem-object row (Inline n y) c m bs = simp (objectShaped, sem-on, sem-use, flat)
+  sem-object row (Object i) c m bs = simp (objectShaped, sem-on, calm, sem-pop)
+  sem-object row (Known i) c m bs = simp (objectShaped, sem-on, calm, sem-members, flat)
+  sem-object row External c m bs = simp (objectShaped, sem-on, calm, sem-use, flat)
+  sem-object row (Inline n y) c m bs = simp (objectShaped, sem-on, calm, sem-use, flat)
 
   sem-word : (w : Word) (n : ℕ) (c : Cursor) (m : Memory) (bs : List ℕ)
       → sem (worded ts w n c m) bs ≡ andThen (afterWord (inner ts) w n m c bs) (rest ts)
   unfolding worded afterWord
-  sem-word (integerWord row) n c m bs = simp (worded, sem-on, sem-pop)
+  sem-word (integerWord row) n c m bs = simp (worded, sem-on, calm, sem-pop)
   sem-word (objectWord row) n c m bs = sem-object row (shapeOf n) c m bs
   sem-word (sizeWord row body) n c m bs = sem-body row body (sizeOf n) c m bs
   sem-word (textWord u) n c m bs = sem-string u (sizeOf n) c m bs
@@ -381,15 +520,15 @@ module _ (ts : List Frame) where
   sem-number : (d : Number) (bits : ℕ) (c : Cursor) (m : Memory) (bs : List ℕ)
       → sem (numberDone ts d bits c m) bs ≡ andThen (afterNumber d bits m c bs) (rest ts)
   unfolding numberDone afterNumber
-  sem-number (doubleBits row) bits c m bs = simp (numberDone, sem-on, sem-pop)
-  sem-number (dateBits row) bits c m bs = simp (numberDone, sem-on, sem-pop)
+  sem-number (doubleBits row) bits c m bs = simp (numberDone, sem-on, calm, sem-pop)
+  sem-number (dateBits row) bits c m bs = simp (numberDone, sem-on, calm, sem-pop)
 
   sem-flag : (f : Flag) (b : ℕ) (c : Cursor) (m : Memory) (bs : List ℕ)
       → sem (flagDone ts f b c m) bs ≡ andThen (afterFlag (inner ts) f b m c bs) (rest ts)
   unfolding flagDone afterFlag afterUse reservedFor task
-  sem-flag (rawFlag row w s) b c m bs = simp (flagDone, sem-on, sem-filling, flat)
-  sem-flag (objectsFlag row n) b c m bs = simp (flagDone, sem-on, sem-use, flat)
-  sem-flag (dictionaryFlag row n) b c m bs = simp (flagDone, sem-on, sem-onward, flat)
+  sem-flag (rawFlag row w s) b c m bs = simp (flagDone, sem-on, calm, sem-filling, flat)
+  sem-flag (objectsFlag row n) b c m bs = simp (flagDone, sem-on, calm, sem-use, flat)
+  sem-flag (dictionaryFlag row n) b c m bs = simp (flagDone, sem-on, calm, sem-onward, flat)
 
   sem-begun : (row : ℕ) (k : Kind) (c : Cursor) (m : Memory) (bs : List ℕ)
       → sem (begun ts row k c m) bs ≡ andThen (marked (inner ts) row k m c bs) (rest ts)
@@ -404,10 +543,10 @@ module _ (ts : List Frame) where
 -- ---- a byte
 
 -- after a byte of a number
-abbrev parted : Part → Memory → (ℕ → Ended) → (ℕ → Ended) → Ended
+abbrev parted : Part → Memory → (ℕ → Result Unit) → (ℕ → Result Unit) → Result Unit
 parted (More n) m more whole = more n
 parted (Whole n) m more whole = whole n
-parted Astray m more whole = refusal refusals.lost 0 0 m
+parted Astray m more whole = bad refusals.lost 0 0 (zeroed m)
 
 sem-part : (p : Part) (m : Memory) (more whole : ℕ → State) (bs : List ℕ)
     → sem (onPart p m more whole) bs ≡ parted p m (λ n. sem (more n) bs) (λ n. sem (whole n) bs)
@@ -422,13 +561,13 @@ part-read (Whole n) rd m c bs k = refl
 part-read Astray rd m c bs k = refl
 
 -- its last byte
-part-last : (n b : ℕ) (m : Memory) (more whole : ℕ → Ended)
-    → parted (partOf 0 n b) m more whole ≡ cond (leb (2 ^ 21) n) (refusal refusals.lost 0 0 m) (whole (n * 2 ^ 8 + b))
+part-last : (n b : ℕ) (m : Memory) (more whole : ℕ → Result Unit)
+    → parted (partOf 0 n b) m more whole ≡ cond (leb (2 ^ 21) n) (bad refusals.lost 0 0 (zeroed m)) (whole (n * 2 ^ 8 + b))
 unfolding partOf
 part-last n b m more whole = on-bool (leb (2 ^ 21) n) (λ e. rw e) (λ e. rw e)
 
-digit-last : (n b : ℕ) (m : Memory) (more whole : ℕ → Ended)
-    → parted (digitOf 0 n b) m more whole ≡ cond (leb (2 ^ 56) n) (refusal refusals.lost 0 0 m) (whole (n * 2 ^ 8 + b))
+digit-last : (n b : ℕ) (m : Memory) (more whole : ℕ → Result Unit)
+    → parted (digitOf 0 n b) m more whole ≡ cond (leb (2 ^ 56) n) (bad refusals.lost 0 0 (zeroed m)) (whole (n * 2 ^ 8 + b))
 unfolding digitOf
 digit-last n b m more whole = on-bool (leb (2 ^ 56) n) (λ e. rw e) (λ e. rw e)
 
@@ -446,8 +585,8 @@ module _ (ts : List Frame) (c : Cursor) (m : Memory) (bs : List ℕ) where
   sem-marker : (key : Key) (d : ℕ) → openLimit - length ts ≡ d
       → andThen (value d key m c bs) (rest ts) ≡ andThen (byte m c bs) (λ b m c bs. sem (act (atMarker key) b ts c m) bs)
   unfolding value act
-  sem-marker key zero e = rw e (simp (act, sem-on, sem-begun, flat) (same (byte m c bs) _ _ (λ b m c bs. shut key b m c _ _ bs)))
-  sem-marker key (suc d) e = let z : openLimit - suc (length ts) ≡ d = omega arith in rw e (simp (act, sem-on, sem-begun, flat, z))
+  sem-marker key zero e = rw e (simp (act, sem-on, calm, sem-begun, flat) (same (byte m c bs) _ _ (λ b m c bs. shut key b m c _ _ bs)))
+  sem-marker key (suc d) e = let z : openLimit - suc (length ts) ≡ d = omega arith in rw e (simp (act, sem-on, calm, sem-begun, flat, z))
 
   -- what a mode has to read is a byte, and then what the byte makes of it
   sem-byte : (x : Mode) → sem (wait x ts c m) bs ≡ andThen (byte m c bs) (λ b m c bs. sem (act x b ts c m) bs)
@@ -458,10 +597,10 @@ module _ (ts : List Frame) (c : Cursor) (m : Memory) (bs : List ℕ) where
   sem-byte (atNumber d zero n) = simp (act, sem-part, sem-number, part-read, digit-last, flat)
   sem-byte (atNumber d (suc l) n) = simp (act, sem-part, sem-number, part-read, pred-suc, flat)
   sem-byte (atFlag f) = simp (act, sem-flag, flat)
-  sem-byte (atText x s zero t) = simp (act, sem-on, sem-text, flat)
-  sem-byte (atText x s (suc n) t) = simp (act, sem-on, sem-wait, flat)
-  sem-byte (atRaw r s zero) = simp (act, sem-on, sem-filling, flat)
-  sem-byte (atRaw r s (suc n)) = simp (act, sem-on, sem-filling, flat)
+  sem-byte (atText x s zero t) = simp (act, sem-on, calm, sem-text, flat)
+  sem-byte (atText x s (suc n) t) = simp (act, sem-on, calm, sem-wait, flat)
+  sem-byte (atRaw r s zero) = simp (act, sem-on, calm, sem-filling, flat)
+  sem-byte (atRaw r s (suc n)) = simp (act, sem-on, calm, sem-filling, flat)
   sem-byte astray = simp (act, sem-over, flat)
 
 -- ---- a step, an end, a run
@@ -474,28 +613,113 @@ sem-step (wait x ts c m) b bs =
     on-bool (leb messageLimit (c .at)) (λ e. rw e (sem-over _ bs ∙ sym (rw e at (sem-byte ts c m (b ∷ bs) x))))
     (λ e. rw e (sym (rw e at (sem-byte ts c m (b ∷ bs) x))))
 
-sem-end : (s : State) → sem s [] ≡ end s
-unfolding end byte
+-- what a state gives where no byte comes
+abbrev ending : State → Result Unit
+ending (over e) = outcome e
+ending (none m) = bad refusals.lost 0 0 (zeroed m)
+ending (wait x ts c m) = bad refusals.unexpectedEnd 0 (c .at) m
+
+sem-end : (s : State) → sem s [] ≡ ending s
+unfolding byte
 sem-end (over e) = sem-over e []
 sem-end (none m) = sem-none m []
 sem-end (wait x ts c m) = sem-byte ts c m [] x
 
-run-sem : (bs : List ℕ) (s : State) → end (run s bs) ≡ sem s bs
+run-sem : (bs : List ℕ) (s : State) → ending (run s bs) ≡ sem s bs
 unfolding run
 run-sem [] s = sym (sem-end s)
 run-sem (b ∷ bs) s = run-sem bs (step b s) ∙ sem-step s b bs
 
-sem-ended : (v : Result Unit) → andThen v (rest []) ≡ ended v
-unfolding rest ended
-sem-ended (ok x m c bs) = refl
-sem-ended (bad n told place m) = refl
+-- what a reading gives, its bytes left out
+abbrev given : Result Unit → Result Unit
+given (ok x m c bs) = ok tt m c []
+given (bad n told place m) = stopped n told place m
 
-begin-sem : (fault : ℕ) (m : Memory) (bs : List ℕ)
-    → sem (beginAt fault m) bs ≡ unlessFault fault m (ended (value openLimit noKey (zeroed m) fresh bs))
-unfolding sem left
-begin-sem zero m bs = let z : openLimit - 0 ≡ openLimit = omega arith in rw z (sem-ended (value openLimit noKey (zeroed m) fresh bs))
-begin-sem (suc loan) m bs = refl
+sem-given : (v : Result Unit) → andThen v (rest []) ≡ given v
+unfolding rest
+sem-given (ok x m c bs) = refl
+sem-given (bad n told place m) = refl
 
+begin-sem : (m : Memory) (bs : List ℕ) → faultOf m ≡ 0 → sem (begin m) bs ≡ given (value openLimit noKey (zeroed m) fresh bs)
+unfolding begin sem left
+begin-sem m bs e = let z : openLimit - 0 ≡ openLimit = omega arith in rw (e, z) (sem-given (value openLimit noKey (zeroed m) fresh bs))
+
+waits-given : (v : Result Unit) (at : ℕ) (k : Memory) → given v ≡ bad refusals.unexpectedEnd 0 at k → v ≡ bad refusals.unexpectedEnd 0 at k
+waits-given (ok x m c bs) at k e = clash cc
+waits-given (bad n told place m) at k e =
+    let i : n ≡ refusals.unexpectedEnd = cc in
+    let j : told ≡ 0 = cc in
+    let l : place ≡ at = cc in
+    let f : cond (eqb n refusals.unexpectedEnd) m (zeroed m) ≡ k = cc in
+    let g : m ≡ k = rw i at f in
+    rw (i, j, l, g)
+
+-- the reading of the same bytes stops with 2, at the same place and in the same loans
+pub waits-reading : (m : Memory) (a : List ℕ) (x : Mode) (ts : List Frame) (c : Cursor) (k : Memory) → faultOf m ≡ 0 → run (begin m) a ≡ wait x ts c k
+    → value openLimit noKey (zeroed m) fresh a ≡ bad refusals.unexpectedEnd 0 (c .at) k
+waits-reading m a x ts c k e q = waits-given _ (c .at) k (sym (begin-sem m a e) ∙ sym (run-sem a (begin m)) ∙ ap ending q)
+
+-- ---- and so feeding is reading
+
+-- a refusal left the loans zero
+abbrev Wiped : State → Type 0
+Wiped (wait x ts c m) = Unit
+Wiped (over (finished c m)) = Unit
+Wiped (over (refused n told place m)) = (k : Memory) × (m ≡ zeroed k)
+Wiped (none m) = Unit
+
+wiped-placed : {b p : ℕ} (s : State) → Placed b p s → Wiped s
+wiped-placed s (placed.waits e) = tt
+wiped-placed s (placed.finishes e) = tt
+wiped-placed s (placed.declines k r z) = (k, z)
+
+wiped-step : (b : ℕ) (s : State) → Wiped s → Wiped (step b s)
+unfolding step
+wiped-step b (wait x ts c m) w =
+    on-bool (leb messageLimit (c .at)) (λ e. rw e (m, refl))
+    (λ e. rw e (wiped-placed (act x b ts (taken c) m) (placed-act {b = b} x ts (taken c) m refl)))
+wiped-step b (over e) w = w
+wiped-step b (none m) w = (m, refl)
+
+wiped-run : (bs : List ℕ) (s : State) → Wiped s → Wiped (run s bs)
+unfolding run
+wiped-run [] s w = w
+wiped-run (b ∷ bs) s w = wiped-run bs (step b s) (wiped-step b s w)
+
+zeroed-twice : (m : Memory) → zeroed (zeroed m) ≡ zeroed m
+unfolding zeroed
+zeroed-twice m = simp length-replicate
+
+-- a result as an end
+abbrev back : Result Unit → Ended
+back (ok x m c bs) = finished c m
+back (bad n told place m) = refusal n told place m
+
+back-ending : (s : State) → Wiped s → back (ending s) ≡ end s
+unfolding end
+back-ending (wait x ts c m) w = refl
+back-ending (over (finished c m)) w = refl
+back-ending (over (refused n told place m)) (k, e) = rw (e, zeroed-twice k)
+back-ending (none m) w = rw (zeroed-twice m)
+
+back-given : (v : Result Unit) → back (given v) ≡ ended v
+unfolding ended
+back-given (ok x m c bs) = refl
+back-given (bad n told place m) = on-bool (eqb n refusals.unexpectedEnd) (λ e. rw e) (λ e. rw (e, zeroed-twice m))
+
+run-ended : (e : Ended) (bs : List ℕ) → run (over e) bs ≡ over e
+unfolding run step
+run-ended e [] = refl
+run-ended e (b ∷ bs) = run-ended e bs
+
+-- the bytes, and then the end, are the whole reading
 pub feeding : (m : Memory) (bs : List ℕ) → end (run (begin m) bs) ≡ reading m bs
-unfolding begin reading
-feeding m bs = run-sem bs (beginAt (faultOf m) m) ∙ begin-sem (faultOf m) m bs
+unfolding begin reading end
+feeding m bs = by-fault (faultOf m) refl
+  where
+    by-fault : (fault : ℕ) → faultOf m ≡ fault → end (run (begin m) bs) ≡ reading m bs
+    by-fault zero e =
+        let w : Wiped (begin m) = rw e tt in
+        let v : Result Unit = value openLimit noKey (zeroed m) fresh bs in
+        sym (back-ending (run (begin m) bs) (wiped-run bs (begin m) w)) ∙ ap back (run-sem bs (begin m) ∙ begin-sem m bs e) ∙ back-given v ∙ rw e
+    by-fault (suc loan) e = rw e (ap end (run-ended (refused refusals.badLoan (suc loan) 0 m) bs))

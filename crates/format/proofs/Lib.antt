@@ -9,6 +9,7 @@ pub mod Lengths
 pub mod Examples
 pub mod Unique
 -- Feeding is reading, however the message is cut.
+pub mod Placed
 pub mod Feeding
 pub mod Cuts
 pub mod Used

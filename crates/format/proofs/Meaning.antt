@@ -65,7 +65,7 @@ sim-fresh m =
       objects = record { fits = omega arith; many = refl; each = λ i l. absurd (omega arith); order = λ i j k l. absurd (omega arith) };
     }
 
-read-alike : (m : Memory) (bs : List ℕ) → Bytes bs → Agree bs (Val m fresh noKey) (our.value openLimit noKey m fresh bs) (standard bs)
+pub read-alike : (m : Memory) (bs : List ℕ) → Bytes bs → Agree bs (Val m fresh noKey) (our.value openLimit noKey m fresh bs) (standard bs)
 unfolding standard
 read-alike m bs h =
     value-alike bs h (suc (length bs)) (omega arith) openLimit (suc (length bs)) noKey m fresh noTables bs (sim-fresh m)

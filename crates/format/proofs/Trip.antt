@@ -44,7 +44,7 @@ is-limit n lo hi =
       ]
     ]
 
-returns : {bs : List ℕ} {e : Ended} {y : ResultOf Tables ℕ Tree} → Accord bs e y → Unlimited e
+pub returns : {bs : List ℕ} {e : Ended} {y : ResultOf Tables ℕ Tree} → Accord bs e y → Unlimited e
     → (t′ : Tree) (s′ : Tables) (k : ℕ) (rest′ : List ℕ) → y ≡ ok t′ s′ k rest′ → Returns e k t′
 returns (reads {c} {m} {t} {s} {rest} j w u v) free t′ s′ k rest′ q =
     let a : c .at ≡ k = cc in

@@ -1,1 +1,19 @@
+-- Any message whose tree loans can hold: what its reading takes is no more than the tree needs, and it is within the limit.
+pub mod Fares
+pub mod Spends
+pub mod Afford
+pub mod Brief
+-- Enough room is enough, and more changes nothing but 10.
+pub mod Ample
+pub mod Roomy
+-- On any state: refusals have their places, bytes their counts, answers their names.
+pub mod Stands
+pub mod Counted
+pub mod Decides
+pub mod Answered
+pub mod Together
+pub mod Ranges
+-- The round trip through the calls.
+pub mod Trips
+-- The demands.
 pub mod Demands

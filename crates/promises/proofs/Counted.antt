@@ -1,0 +1,211 @@
+-- The bytes that are taken, on any state and loans: what still waits took all of them, and the byte that decided is the last one taken, but for 11 and 12.
+use mathlib.Core.Path.{_≡_, refl, sym, ap, _∙_}
+use mathlib.Core.Bool.{cond, _||_}
+use mathlib.Core.List.{List, [], _∷_, _++_}
+use Prim.Native.Nat.{ℕ, suc, _+_}
+use native.Mathlib.Nat.{add-zero, zero-add, add-assoc}
+use native.Mathlib.Omega.{arith}
+use lib.Dec.{eqb}
+use lib.ListN.{length}
+use Rattle.rows.specs.Memory.{Memory, messageLimit}
+use Rattle.format.specs.declared.Answer.{Answer}
+use Rattle.format.specs.declared.Answer.the-variants.{Waiting, Finished, Refused}
+use Rattle.format.specs.Reading.{Ended, finished, refused}
+use Rattle.format.specs.Step.{State, wait, over, none}
+use Rattle.format.specs.Numbers.{Numbers, Held, held, stateOf, numbersOf, afterStep, byteStep, stepped}
+use Rattle.format.specs.Answers.{answerOf, answered, runHeld, cost, costFrom, stateIn, takenBy, feedCall}
+use Rattle.format.proofs.Tests.{clash}
+use Rattle.format.proofs.Cuts.{joined}
+use Rattle.format.proofs.Pieces.{answerIn, takenIn, fedBy, fedPieces, tally, taken-pieces, run-still, taken-still}
+use Rattle.format.proofs.Placed.{Refusal, unknown, absent, unfinished, external, undated, malformed, deep, full, astrays}
+use Rattle.promises.proofs.Stands.{Stands, waits, finishes, faulty, declines, passes, Any, every-any, stands-byte, stands-run}
+use Rattle.format.specs.Refusals as refusals
+
+-- ---- what waits
+
+abbrev pub Waits : State → Type 0
+Waits (wait x ts c m) = Unit
+Waits (over e) = ⊥
+Waits (none m) = ⊥
+
+waits-stepped : (n : Numbers) (m : Memory) (b : ℕ) (s : State) → stateOf n m ≡ s → Waits (stateIn (stepped n m b s)) → Waits s
+unfolding afterStep numbersOf stateOf
+waits-stepped n m b (wait x ts c k) q w = tt
+waits-stepped n m b (over e) q w = rw q at w
+waits-stepped n m b (none k) q w = w
+
+-- what waits after a byte waited before it
+waits-byte : (b : ℕ) (h : Held) → Waits (stateIn (byteStep b h)) → Waits (stateIn h)
+unfolding byteStep
+waits-byte b (held n m) w = waits-stepped n m b (stateOf n m) refl w
+
+waits-run : (h : Held) (bs : List ℕ) → Waits (stateIn (runHeld h bs)) → Waits (stateIn h)
+unfolding runHeld
+waits-run h [] w = w
+waits-run h (b ∷ bs) w = waits-byte b h (waits-run (byteStep b h) bs w)
+
+cost-waits : (s t : State) → Waits s → Waits t → costFrom s t ≡ 1
+cost-waits (wait x ts c m) (wait y us d n) p q = refl
+cost-waits (wait x ts c m) (over e) p q = absurd q
+cost-waits (wait x ts c m) (none n) p q = absurd q
+cost-waits (over e) t p q = absurd p
+cost-waits (none m) t p q = absurd p
+
+-- and took all
+pub waits-all : (h : Held) (bs : List ℕ) → Waits (stateIn (runHeld h bs)) → takenBy h bs ≡ length bs
+unfolding runHeld takenBy
+waits-all h [] w = refl
+waits-all h (b ∷ bs) w =
+    let v = waits-run (byteStep b h) bs w in
+    rw (cost-waits (stateIn h) (stateIn (byteStep b h)) (waits-byte b h v) v, waits-all (byteStep b h) bs w) (omega arith)
+
+-- ---- the byte that decides
+
+pub run-append : (h : Held) (a b : List ℕ) → runHeld h (a ++ b) ≡ runHeld (runHeld h a) b
+unfolding runHeld
+run-append h [] b = refl
+run-append h (x ∷ a) b = run-append (byteStep x h) a b
+
+pub taken-append : (h : Held) (a b : List ℕ) → takenBy h (a ++ b) ≡ takenBy h a + takenBy (runHeld h a) b
+unfolding takenBy runHeld
+taken-append h [] b = sym (zero-add _)
+taken-append h (x ∷ a) b = rw (taken-append (byteStep x h) a b, add-assoc)
+
+stand-wait : (b : ℕ) (s : State) → Waits s → (at : ℕ) × Stands ⊥ (λ (x : ℕ). x ≡ b) at s
+stand-wait b (wait x ts c m) w = (c .at, waits refl)
+stand-wait b (over e) w = absurd w
+stand-wait b (none m) w = absurd w
+
+stand-over : {Byte : ℕ → Type 0} {at : ℕ} (s : State) → Stands ⊥ Byte at s → (Waits s → ⊥) → (e : Ended) × (s ≡ over e)
+stand-over s (waits e) w = absurd (w tt)
+stand-over s (finishes {c = c} {m = m} e) w = (finished c m, refl)
+stand-over s (faulty f i j e) w = absurd f
+stand-over s (declines {n = n} {told = told} {place = place} {m = m} b k y r h z) w = (refused n told place m, refl)
+stand-over s (passes {place = place} {m = m} k e f z) w = (refused refusals.tooLong 0 place m, refl)
+
+-- an ended state stays, and takes nothing
+still : (h : Held) (bs : List ℕ) (e : Ended) → stateIn h ≡ over e → (runHeld h bs ≡ h) × (takenBy h bs ≡ 0)
+still (held n m) bs e q = (run-still n m e q bs, taken-still n m e q bs)
+
+cost-from : (s t : State) → Waits s → costFrom s t ≡ cost t
+cost-from (wait x ts c m) t w = refl
+cost-from (over e) t w = absurd w
+cost-from (none m) t w = absurd w
+
+module _ (h : Held) (a : List ℕ) (b : ℕ) (rest : List ℕ) (before : Waits (stateIn (runHeld h a))) (after : Waits (stateIn (byteStep b (runHeld h a))) → ⊥) where
+  decided-over : (e : Ended) × (stateIn (byteStep b (runHeld h a)) ≡ over e)
+  decided-over = stand-over _ (stands-byte b (runHeld h a) refl ((stand-wait b (stateIn (runHeld h a)) before) .1)) after
+
+  -- what follows the deciding byte changes nothing
+  pub decided-run : runHeld h (a ++ (b ∷ rest)) ≡ byteStep b (runHeld h a)
+  unfolding runHeld
+  decided-run = run-append h a (b ∷ rest) ∙ (still (byteStep b (runHeld h a)) rest (decided-over .0) (decided-over .1)) .0
+
+  pub decided-taken : takenBy h (a ++ (b ∷ rest)) ≡ length a + cost (stateIn (runHeld h (a ++ (b ∷ rest))))
+  unfolding takenBy
+  decided-taken =
+      rw (
+        taken-append h a (b ∷ rest),
+        waits-all h a before,
+        decided-run,
+        (still (byteStep b (runHeld h a)) rest (decided-over .0) (decided-over .1)) .1,
+        cost-from (stateIn (runHeld h a)) (stateIn (byteStep b (runHeld h a))) before,
+        add-zero,
+      )
+
+-- ---- what that byte says
+
+-- an answer that byte b decided, the last of p bytes that are taken
+pub data Decided-by (b p : ℕ) : Answer → Type 0 where
+  ends : {rows bytes k : ℕ} → Decided-by b p (Finished rows bytes k)
+  refuses : {n told place k : ℕ} → Refusal b p n told place → Decided-by b p (Refused n told place k)
+  -- it isn't taken
+  past : {place k : ℕ} → place ≡ messageLimit → suc place ≡ p → Decided-by b p (Refused refusals.tooLong 0 place k)
+
+up : {at p place : ℕ} → at ≡ p + 1 → place ≡ at → place ≡ suc p
+up e f = omega arith
+
+decided-state : {at : ℕ} (b p k : ℕ) (t : State) → Stands ⊥ (λ (x : ℕ). x ≡ b) at t → at ≡ p + cost t → (Waits t → ⊥) → Decided-by b (suc p) (answerOf t k)
+decided-state b p k t (waits e) q w = absurd (w tt)
+decided-state b p k t (finishes e) q w = ends
+decided-state b p k t (faulty f i j e) q w = absurd f
+decided-state b p k t (declines c l y (unknown h e) j z) q w = rw (← y) (refuses (unknown h (up q e)))
+decided-state b p k t (declines c l y (absent e) j z) q w = refuses (absent (up q e))
+decided-state b p k t (declines c l y (unfinished e) j z) q w = refuses (unfinished (up q e))
+decided-state b p k t (declines c l y (external e) j z) q w = refuses (external (up q e))
+decided-state b p k t (declines c l y (undated e) j z) q w = refuses (undated (up q e))
+decided-state b p k t (declines c l y (malformed e) j z) q w = refuses (malformed (up q e))
+decided-state b p k t (declines c l y (deep e) j z) q w = refuses (deep (up q e))
+decided-state b p k t (declines c l y (full h e) j z) q w = refuses (full h (up q e))
+decided-state b p k t (declines c l y astrays j z) q w = refuses astrays
+decided-state b p k t (passes l e f z) q w = past e (ap suc (f ∙ q ∙ add-zero p))
+
+-- what waits stands where it stood
+stand-again : {Begun : Type 0} {Byte Byte′ : ℕ → Type 0} {at : ℕ} (s : State) → Stands Begun Byte at s → Waits s → Stands ⊥ Byte′ at s
+stand-again s (waits e) w = waits e
+stand-again s (finishes e) w = absurd w
+stand-again s (faulty f i j e) w = absurd w
+stand-again s (declines b k y r h z) w = absurd w
+stand-again s (passes k e f z) w = absurd w
+
+module _ (h : Held) (a : List ℕ) (b : ℕ) (rest : List ℕ) (before : Waits (stateIn (runHeld h a))) (after : Waits (stateIn (byteStep b (runHeld h a))) → ⊥) where
+  pub decided-says : {Begun : Type 0} → Stands Begun Any 0 (stateIn h) → (k : ℕ)
+      → Decided-by b (suc (length a)) (answerOf (stateIn (runHeld h (a ++ (b ∷ rest)))) k)
+  decided-says w k =
+      let t = waits-all h a before in
+      let s = stand-again {Byte′ = λ (x : ℕ). x ≡ b} (stateIn (runHeld h a)) (stands-run h a (every-any a) w) before in
+      let c = cost-from (stateIn (runHeld h a)) (stateIn (byteStep b (runHeld h a))) before in
+      rw (decided-run h a b rest before after)
+      (decided-state b (length a) k (stateIn (byteStep b (runHeld h a))) (stands-byte b (runHeld h a) refl s) (rw (c, t, zero-add)) after)
+
+-- ---- through the calls
+
+pub fed-is : (h : Held) (i : ℕ) (piece : List ℕ) → fedBy (answered h i) piece ≡ answered (runHeld h piece) (takenBy h piece)
+unfolding feedCall
+fed-is (held n m) i piece = refl
+
+pub pieces-are : (h : Held) (i : ℕ) (pieces : List (List ℕ)) → (k : ℕ) × (fedPieces (answered h i) pieces ≡ answered (runHeld h (joined pieces)) k)
+unfolding runHeld
+pieces-are h i [] = (i, refl)
+pieces-are h i (piece ∷ pieces) =
+    let (k, e) = pieces-are (runHeld h piece) (takenBy h piece) pieces in
+    (k, rw (fed-is h i piece, e, run-append))
+
+taken-answer : (s : State) (n : ℕ) → takenIn (answerOf s n) ≡ n
+taken-answer (wait x ts c m) n = refl
+taken-answer (over (finished c m)) n = refl
+taken-answer (over (refused number told place m)) n = refl
+taken-answer (none m) n = refl
+
+pub answer-in : (h : Held) (n : ℕ) → answerIn (answered h n) ≡ answerOf (stateIn h) n
+answer-in (held s m) n = refl
+
+pub tally-is : (h : Held) (i : ℕ) (pieces : List (List ℕ)) → tally (answered h i) pieces ≡ takenBy h (joined pieces)
+tally-is h i pieces =
+    taken-pieces (answered h i) pieces ∙ ap (λ f. takenIn (answerIn f)) (fed-is h i (joined pieces))
+    ∙ ap takenIn (answer-in (runHeld h (joined pieces)) (takenBy h (joined pieces)))
+    ∙ taken-answer (stateIn (runHeld h (joined pieces))) (takenBy h (joined pieces))
+
+-- an answer that says it waits
+pub answer-waits : (s : State) (n k : ℕ) → answerOf s n ≡ Waiting k → Waits s
+answer-waits (wait x ts c m) n k e = tt
+answer-waits (over (finished c m)) n k e = clash cc
+answer-waits (over (refused number told place m)) n k e = clash cc
+answer-waits (none m) n k e = clash cc
+
+pub waits-answer : (s : State) (n : ℕ) → Waits s → answerOf s n ≡ Waiting n
+waits-answer (wait x ts c m) n w = refl
+waits-answer (over e) n w = absurd w
+waits-answer (none m) n w = absurd w
+
+-- the bytes that an answer's last byte counts as: none for 11 and 12
+abbrev pub lastByte : Answer → ℕ
+lastByte (Waiting n) = 1
+lastByte (Finished rows bytes n) = 1
+lastByte (Refused number told place n) = cond (eqb number refusals.tooLong || eqb number refusals.lost) 0 1
+
+pub cost-answer : (s : State) (n : ℕ) → cost s ≡ lastByte (answerOf s n)
+cost-answer (wait x ts c m) n = refl
+cost-answer (over (finished c m)) n = refl
+cost-answer (over (refused number told place m)) n = refl
+cost-answer (none m) n = refl
