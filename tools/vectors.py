@@ -1,12 +1,15 @@
 #!/usr/bin/env python3
-"""Makes the lists examples.txt, readings.txt and writings.txt of tests/lists, which tests/vectors.c holds the calls to.
+"""Makes the lists altered.txt, examples.txt, readings.txt and writings.txt of tests/lists, which tests/vectors.c holds the calls to.
 
     python3 tools/vectors.py FOLDER
 
-FOLDER has readings.jsonl and writings.jsonl, a vector a line:
+FOLDER has readings.jsonl, writings.jsonl and altered.jsonl, a vector a line:
 - a reading: `hex` the message, `loans` the entries lent, `no` 0 for finished or the refusal with `told` and `place`, `taken`, the used part of each loan afterwards,
   `waiting`, the used parts after each byte while a feed of the message waits, and `written`, what the writer makes of the finished rows;
-- a writing: `rows`, `store`, `room`, `no` 0 for accepted with the bytes in `hex` or the refusal with `told` and `place`.
+- a writing: `rows`, `store`, `room`, `no` 0 for accepted with the bytes in `hex` or the refusal with `told` and `place`;
+- a piece on an altered state: `why`, what it is on the edge of, `loans`, and `hex`, a message that is fed first; `changes`, each `["state", index, number]`,
+  `[loan, index, number]` or `[loan, "length", numbers]`; `piece`; the `answer` to it by the fields of pb_answer; `state`, each number of it that the piece
+  changes, as `[index, number]`, and `memory`, "zero" or each number of the loans that it changes, as `[loan, index, number]`.
 
 The examples of document 01 stand below, in the same form.
 """
@@ -22,10 +25,11 @@ ORIGINS = {
     "examples": "The examples of document 01, which stand in tools/vectors.py.",
     "readings": "Readings and feeds that wait, from an executable model of document 01.",
     "writings": "Writings, from an executable model of document 01.",
+    "altered": "Feeds on altered states and loans, from an executable model of document 01.",
 }
 
 COMMAND = """\
-# Made by python3 tools/vectors.py FOLDER, where FOLDER has the model's readings.jsonl and writings.jsonl. Tried by tests/vectors.c.
+# Made by python3 tools/vectors.py FOLDER, where FOLDER has the model's readings.jsonl, writings.jsonl and altered.jsonl. Tried by tests/vectors.c.
 # Each line has a kind, what is asked, and the answer, in hexadecimal. A LIST is how many numbers, then they.
 """
 
@@ -35,6 +39,11 @@ FORMS = {
     "waiting": "waiting: the same, where a feed of the message waits after its last byte",
     "written": "written ROWS STORE ROOM NO TOLD PLACE BYTES, for the rows and the store of each finished reading; ROWS is a LIST",
     "writing": "writing ROWS STORE ROOM NO TOLD PLACE BYTES; ROWS is a LIST",
+    "altered": """\
+altered, the lengths of the six loans, MESSAGE CHANGES PIECE, KIND NO TOLD PLACE ROWS BYTES TAKEN, ZERO CHANGES; what each is on the edge of stands above it
+A reading begins, MESSAGE is fed and waits or finishes, the first CHANGES are made, and PIECE, which may be none, is fed. KIND to TAKEN is the answer to it.
+ZERO is 1 where all loans are zero then. The second CHANGES are all else that the piece changes.
+CHANGES are how many, then for each WHAT INDEX NUMBER. WHAT is 0 for the state, 1 to 6 for a loan, 11 to 16 for the length that it is lent with.""",
 }
 
 ANSWERS = "NO is 0 where nothing is refused, and TOLD and PLACE are 0 where nothing is told. BYTES may be none. A refused reading has taken and used nothing."
@@ -124,6 +133,26 @@ def writing(kind, rows, store, room, answer):
     return " ".join([kind, listed(rows), store, words(room), words(answer["no"], answer["told"], answer["place"]), answer["hex"]]).rstrip()
 
 
+def change(what, index, number):
+    if what == "state":
+        return 0, index, number
+    return (0x10 + what, 0, number) if index == "length" else (what, index, number)
+
+
+def changed(changes):
+    return words(len(changes), *(n for c in changes for n in change(*c)))
+
+
+def altered(v):
+    """The line, and a line above it."""
+    lengths = [n * width for n, width in zip(v["loans"], WIDTHS)]
+    zero = v["memory"] == "zero"
+    after = [["state", *c] for c in v["state"]] + ([] if zero else v["memory"])
+    answer = [v["answer"][k] for k in ("kind", "no", "told", "place", "rows", "bytes", "taken")]
+    line = " ".join(["altered", words(*lengths), v["hex"], changed(v["changes"]), v["piece"], words(*answer, int(zero)), changed(after)])
+    return f"# {v['why']}\n{line}"
+
+
 def accepted(message):
     return {"no": 0, "told": 0, "place": 0, "hex": message}
 
@@ -132,10 +161,10 @@ def unlike(lines):
     return list(dict.fromkeys(lines))
 
 
-def put(name, kinds):
+def put(name, kinds, answers=ANSWERS):
     """Writes a list: its first lines, and the lines of each kind."""
-    comments = [ORIGINS[name], *(FORMS[kind] for kind in kinds), ANSWERS]
-    first, *others = (f"# {comment}\n" for comment in comments)
+    comments = [ORIGINS[name], *(FORMS[kind] for kind in kinds), answers]
+    first, *others = (f"# {line}\n" for comment in comments for line in comment.split("\n"))
     path = pathlib.Path(__file__).resolve().parent.parent / "tests" / "lists" / f"{name}.txt"
     path.write_text(first + COMMAND + "".join(others) + "".join(line + "\n" for lines in kinds.values() for line in lines))
 
@@ -157,6 +186,7 @@ def main():
         "written": [writing("written", v["rows"], v["store"], ROOMY, v["written"]) for v in readings if v["no"] == 0],
         "writing": [writing("writing", v["rows"], v["store"], v["room"], v) for v in writings],
     })
+    put("altered", {"altered": [altered(json.loads(line)) for line in open(folder / "altered.jsonl")]}, "What has no meaning in an answer is 0.")
 
 
 main()

@@ -1,12 +1,11 @@
--- What the test of a row tells of the loan, and the limit of its counts.
+-- What the test of a row tells of the loan.
 use mathlib.Core.Path.{_≡_, refl, sym, _∙_}
 use mathlib.Core.Bool.{Bool, true, false, _&&_}
 use Prim.Native.Nat.{ℕ, _+_, _*_, _/_, _<_, _≤_}
 use native.Mathlib.Omega.{arith}
-use borrow.Author.Tests.{ltb-true, leb-true, le-leb, lt-leb}
+use borrow.Author.Tests.{ltb-true, leb-true}
 use lib.Dec.{ltb, leb}
-use Rattle.rows.specs.Memory.{messageLimit, rowWidth, colEnd}
-use Rattle.rows.specs.Memory.{messageMost}
+use Rattle.rows.specs.Memory.{rowWidth, colEnd}
 
 both : (a b : Bool) → (a && b) ≡ true → (a ≡ true) × (b ≡ true)
 both true b e = (refl, e)
@@ -17,11 +16,3 @@ pub used-row : (len used row : ℕ) {r : Bool} → r ≡ (ltb row used && leb us
 used-row len used row e t =
     let p : (ltb row used ≡ true) × (leb used (len / rowWidth) ≡ true) = both (ltb row used) (leb used (len / rowWidth)) (sym e ∙ t) in
     omega (arith, ltb-true row used (p .0), leb-true used (len / rowWidth) (p .1))
-
-pub limit-past : (n : ℕ) → messageMost ≤ n → leb messageLimit n ≡ true
-unfolding messageLimit
-limit-past n h = le-leb messageMost n h
-
-pub limit-ahead : (n : ℕ) → n < messageMost → leb messageLimit n ≡ false
-unfolding messageLimit
-limit-ahead n h = lt-leb messageMost n h

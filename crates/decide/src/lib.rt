@@ -4,7 +4,6 @@
 use format::refusals;
 use rows::Cursor;
 use rows::Key;
-use rows::MESSAGE_LIMIT;
 use rows::ROW_WIDTH;
 use rows::Row;
 use rows::SPAN_SIZE;
@@ -465,11 +464,11 @@ pub fn flagged(rows: &mut [usize], c: Cursor, row: usize, flag: usize) -> Done
     Done::Refused(lost())
 }
 
-// An entry is finished, after `done` others. A column past the rows is nowhere, and nothing is written.
+// An entry is finished, after `done` others, each with a row of its own. A column past the rows is nowhere, and nothing is written.
 pub fn counted(rows: &mut [usize], c: Cursor, row: usize, col: usize, done: usize) -> Done
     ensures { λ r. ⌜ with1 (doneOf r) (now (rows .exit)) ≡ leaving (now (rows .entry)) (d.counted row col done (now (rows .entry)) c) ⌝ }
 {
-    if MESSAGE_LIMIT <= done {
+    if c.rows <= done {
         return Done::Refused(lost());
     }
     if !rows::row_used(rows.len(), c.rows, row) {
@@ -480,6 +479,19 @@ pub fn counted(rows: &mut [usize], c: Cursor, row: usize, col: usize, done: usiz
     }
     rows[row * ROW_WIDTH + col] = done + 1;
     Done::Fine(c)
+}
+
+// A dictionary's key is finished, after `done` pairs.
+pub fn key_end(rows: &[usize], c: Cursor, row: usize, done: usize) -> Done
+    ensures { λ r. ⌜ doneOf r ≡ d.keyEnd row done (now (rows .entry)) c ⌝ }
+{
+    if c.rows <= done {
+        return Done::Refused(lost());
+    }
+    if rows::row_used(rows.len(), c.rows, row) {
+        return Done::Fine(c);
+    }
+    Done::Refused(lost())
 }
 
 pub fn width_of(w: Width) -> usize
@@ -664,14 +676,11 @@ pub fn referred(rows: &mut [usize], objects: &[usize], c: Cursor, row: usize, i:
 
 // ---- traits
 
-// Its class and its names are used, and its mark is a mark.
+// Its class and its names are used.
 fn trait_holds(c: Cursor, t: Trait) -> bool
     ensures { λ r. ⌜ r ≡ d.traitHolds c t ⌝ }
 {
     if !wire::fits(c.store, t.begin, t.size) {
-        return false;
-    }
-    if 1 < t.dynamic {
         return false;
     }
     wire::fits(c.names, t.first, t.count)

@@ -3,7 +3,7 @@ use mathlib.Core.Path.{_≡_, refl, sym, ap, _∙_}
 use mathlib.Core.Bool.{Bool, true, false, cond, _&&_, _||_}
 use mathlib.Core.List.{List}
 use Prim.Native.Nat.{ℕ, zero, suc}
-use lib.Dec.{leb, eqb}
+use lib.Dec.{eqb}
 use lib.ListN.{replicate}
 use borrow.Author.Tests.{eq-eqb, ne-eqb}
 use Rattle.rows.specs.declared.Cursor.{Cursor}
@@ -15,13 +15,14 @@ use Rattle.format.specs.declared.Work.{Work}
 use Rattle.format.specs.Reading.{finished, refused}
 use Rattle.format.specs.Step as step
 use Rattle.format.specs.Step.{wait, over, none}
-use Rattle.format.specs.Numbers.{Numbers, Held, held, stateOf, afterStep, numbersOf, modeOf, framesOf, workOf, work, noTrait, laid, lentOf}
+use Rattle.format.specs.Numbers.{Numbers, Held, held, stateOf, afterStep, numbersOf, modeOf, framesOf, workOf, work, noTrait, laid, lentOf, finishable}
 use Rattle.format.specs.Answers.{Fed, fed, answerOf, answered, blank, beginCall, runHeld, takenBy, feedCall, endOf, endCall}
-use Rattle.format.proofs.Tests.{clash}
+use Rattle.format.proofs.Tests.{on-bool, clash}
 use Rattle.decide.specs.declared.Refusal.{Refusal}
 use Rattle.resume.specs.declared.Next.the-variants.{Wait, Refused}
 use Rattle.resume.specs.Steps.{refusalOf}
-use Rattle.pieces.specs.States.{numbers, hasEnded, headOf}
+use Rattle.pieces.specs.States.{numbers, headOf}
+use Rattle.states.specs.Ends.{hasEnded}
 use Rattle.feed.specs.Calls.{endRefusal}
 use Rattle.format.specs.Codes.{statusWaiting, statusFinished, statusRefused}
 use Rattle.format.specs.Numbers.{framesSize}
@@ -34,14 +35,22 @@ module _ (h : Head) (F : List ℕ) (m : Memory) where
       cond t (wait (modeOf (h .work)) (framesOf F (h .depth)) (h .cursor) m)
       (cond u (over (finished (h .cursor) m)) (cond v (over (refused (h .number) (h .told) (h .place) m)) (none m)))
 
-  -- refused by a number of ours
+  -- finished, and refused, as a reading can be
+  abbrev done : Bool
+  done = eqb (h .status) statusFinished && finishable (h .cursor)
+
   abbrev ours : Bool
-  ours = eqb (h .status) statusRefused && leb refusals.badLoan (h .number) && leb (h .number) refusals.lost
+  ours = eqb (h .status) statusRefused && refusals.sayable (h .number) (h .told) (h .place)
+
+  pub finished-answer : (n : ℕ) → h .status ≡ statusFinished → hasEnded h ≡ true
+      → answer.Finished (h .cursor .rows) (h .cursor .store) n ≡ answerOf (stateOf (numbers h F) m) n
+  unfolding hasEnded stateOf
+  finished-answer n q e = on-bool (finishable (h .cursor)) (λ f. rw (q, f)) (λ f. let z = rw (q, f) at e in clash cc)
 
   pub refused-answer : (n : ℕ) → (h .status ≡ statusWaiting → ⊥) → (h .status ≡ statusFinished → ⊥) → hasEnded h ≡ true
       → answer.Refused (h .number) (h .told) (h .place) n ≡ answerOf (stateOf (numbers h F) m) n
   unfolding hasEnded stateOf
-  refused-answer n p q e = by (eqb (h .status) statusWaiting) (eqb (h .status) statusFinished) ours (ne-eqb (h .status) statusWaiting p) (ne-eqb (h .status) statusFinished q) e
+  refused-answer n p q e = by (eqb (h .status) statusWaiting) done ours (ne-eqb (h .status) statusWaiting p) (rw (ne-eqb (h .status) statusFinished q)) e
     where
       by : (t u v : Bool) → t ≡ false → u ≡ false → cond t false (u || v) ≡ true
           → answer.Refused (h .number) (h .told) (h .place) n ≡ answerOf (told t u v) n
@@ -52,7 +61,7 @@ module _ (h : Head) (F : List ℕ) (m : Memory) where
 
   pub lost-answer : (n : ℕ) → (h .status ≡ statusWaiting → ⊥) → hasEnded h ≡ false → answer.Refused refusals.lost 0 0 n ≡ answerOf (stateOf (numbers h F) m) n
   unfolding hasEnded stateOf
-  lost-answer n p e = by (eqb (h .status) statusWaiting) (eqb (h .status) statusFinished) ours (ne-eqb (h .status) statusWaiting p) e
+  lost-answer n p e = by (eqb (h .status) statusWaiting) done ours (ne-eqb (h .status) statusWaiting p) e
     where
       by : (t u v : Bool) → t ≡ false → cond t false (u || v) ≡ false → answer.Refused refusals.lost 0 0 n ≡ answerOf (told t u v) n
       by true u v p e = clash cc
@@ -63,7 +72,7 @@ module _ (h : Head) (F : List ℕ) (m : Memory) where
   -- what has ended stays
   pub end-stays : hasEnded h ≡ true → answered (held (numbers h F) m) 0 ≡ endCall (numbers h F) m
   unfolding hasEnded endCall stateOf
-  end-stays e = by (eqb (h .status) statusWaiting) (eqb (h .status) statusFinished) ours e
+  end-stays e = by (eqb (h .status) statusWaiting) done ours e
     where
       by : (t u v : Bool) → cond t false (u || v) ≡ true
           → answered (held (numbers h F) m) 0 ≡ endOf (numbers h F) m (told t u v)
@@ -75,9 +84,9 @@ module _ (h : Head) (F : List ℕ) (m : Memory) where
   -- what has not is refused, and the loans are zero
   pub end-refuses : (r : Refusal) (h′ : Head) (m′ : Memory) → hasEnded h ≡ false → r ≡ endRefusal h → h′ ≡ headOf (h .lent) (Refused r) → m′ ≡ zeroed m
       → answered (held (numbers h′ F) m′) 0 ≡ endCall (numbers h F) m
-  unfolding hasEnded endCall stateOf endRefusal afterStep numbersOf step.end
+  unfolding hasEnded endCall stateOf refusals.sayable endRefusal afterStep numbersOf step.end
   end-refuses r h′ m′ e p q s =
-      rw (s, q, p) (by (eqb (h .status) statusWaiting) (eqb (h .status) statusFinished) ours e)
+      rw (s, q, p) (by (eqb (h .status) statusWaiting) done ours e)
     where
       by : (t u v : Bool) → cond t false (u || v) ≡ false
           → answered (held (numbers (headOf (h .lent) (Refused (cond t (refusalOf refusals.unexpectedEnd 0 (h .cursor .at)) (refusalOf refusals.lost 0 0)))) F) (zeroed m)) 0

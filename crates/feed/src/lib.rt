@@ -43,6 +43,14 @@ fn answer_of(h: Head, taken: usize) -> Answer
     if h.status == statuses::WAITING {
         return Answer::Waiting { taken };
     }
+    if !states::has_ended(h) {
+        return Answer::Refused {
+            no: refusals::LOST,
+            told: 0,
+            place: 0,
+            taken,
+        };
+    }
     if h.status == statuses::FINISHED {
         return Answer::Finished {
             rows: h.cursor.rows,
@@ -50,18 +58,10 @@ fn answer_of(h: Head, taken: usize) -> Answer
             taken,
         };
     }
-    if pieces::has_ended(h) {
-        return Answer::Refused {
-            no: h.number,
-            told: h.told,
-            place: h.place,
-            taken,
-        };
-    }
     Answer::Refused {
-        no: refusals::LOST,
-        told: 0,
-        place: 0,
+        no: h.number,
+        told: h.told,
+        place: h.place,
         taken,
     }
 }
@@ -215,7 +215,7 @@ pub fn ended(
 {
     let h = s.head;
     let frames = s.frames;
-    if pieces::has_ended(h) {
+    if states::has_ended(h) {
         return answered(h, frames, 0);
     }
     rows::clear(rows, store, strings, objects, traits, names);

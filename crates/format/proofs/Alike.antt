@@ -7,7 +7,7 @@ use native.Mathlib.Omega.{arith}
 use native.Mathlib.Decide.{decLt}
 use borrow.Author.Tests.{lt-ltb, le-ltb, leb-false}
 use lib.Dec.{leb, lit≤}
-use lib.ListN.{length, getD, drop, drop-of-length-le}
+use lib.ListN.{length, getD, drop, drop-of-length-le, length-drop}
 use lib.Seq.{drop-cons}
 use Rattle.rows.specs.declared.Cursor.{Cursor}
 use Rattle.rows.specs.Memory.{Memory, messageLimit}
@@ -41,6 +41,10 @@ left-byte {whole} {at} {b} {bs} h l = by (decLt at (length whole))
         let g : bs ≡ drop (suc at) whole = cc in
         (record { rest = g; within = k }, rw f (h at))
     by (no k) = let e : (b ∷ bs) ≡ [] = l .rest ∙ drop-of-length-le whole {i = at} (omega arith) in clash cc
+
+-- one more than the bytes left, with those before them, is more than the whole
+pub left-enough : {whole : List ℕ} {at : ℕ} {bs : List ℕ} → Left whole at bs → length whole < suc (length bs) + at
+left-enough {whole} {at} {bs} l = let w = l .within in rw (l .rest, length-drop) (omega arith)
 
 -- ---- two results alike
 

@@ -17,10 +17,11 @@ use Rattle.wire.proofs.Big.{number-bytes, bytes-length}
 use Rattle.wire.proofs.Dates.{date-round, date-bits-lt}
 use Rattle.utf8.specs.Grammar.{follow, validText}
 use Rattle.format.specs.Decide as k
-use Rattle.format.specs.Decide.{Body, Width, kindOf, widthOf}
+use Rattle.format.specs.Decide.{Body, Width, widthOf}
 use Rattle.format.specs.Reading.{ok, bind, _>>=_, ret}
 use Rattle.format.specs.Standard.{Plain, undefined, null, boolean, integer, double, string, xmlDocument, xml, byteArray, date}
-use Rattle.format.specs.Standard.{intVector, uintVector, doubleVector, Tree, plain, Tables, Std, change, byte, bytes, word, chars, entered}
+use Rattle.format.specs.Standard.{intVector, uintVector, doubleVector, Tree, plain, Tables, Std, change, byte, bytes, word, chars}
+use Rattle.format.specs.Standard.{keptText, sizeSays, objectSays, follows}
 use Rattle.format.specs.Standard.{textOf, text}
 use Rattle.format.specs.Standard.{opened, shut, vectorOf, newOf, sizedOf, marked, value, sizeBytes, textBytes, flagByte, encodePlain}
 use Rattle.format.proofs.Tests.{flag-back}
@@ -75,8 +76,8 @@ reads-chars : (t : List ℕ) → validText t ≡ true → Reads (chars (length t
 unfolding chars
 reads-chars t e = reads-last _ (reads-bytes t) (rw e reads-ret)
 
-reads-entered : (t : List ℕ) → Reads (entered t) [] t
-unfolding entered
+reads-entered : (t : List ℕ) → Reads (keptText t) [] t
+unfolding keptText
 reads-entered [] = reads-ret
 reads-entered (b ∷ t) = reads-change
 
@@ -98,7 +99,7 @@ reads-empty = reads-text [] empty-text
 -- ---- values that hold no others
 
 -- a value's marker
-pub reads-marked : (f d : ℕ) {bs : List ℕ} {t : Tree} (b : ℕ) → ltb 0x11 b ≡ false → Reads (marked (value f d) f b (kindOf b)) bs t
+pub reads-marked : (f d : ℕ) {bs : List ℕ} {t : Tree} (b : ℕ) → ltb 0x11 b ≡ false → Reads (marked (value f d) f b (follows b)) bs t
     → Reads (value f (suc d)) (b ∷ bs) t
 unfolding value
 reads-marked f d b e h = reads-bind _ (reads-byte b) (rw e h)
@@ -123,7 +124,7 @@ number-eight : (n : ℕ) → n < 2 ^ 64 → numberOf 0 (bytesOf 8 n) ≡ n
 number-eight n h = number-bytes 8 n ∙ mod-eq-of-lt h
 
 pub reads-plain : (p : Plain) → WritablePlain p → (f d : ℕ) → Reads (value f (suc d)) (encodePlain p) (plain p)
-unfolding encodePlain kindOf marked newOf u29 moreOf groups
+unfolding encodePlain follows marked newOf u29 moreOf groups
 reads-plain undefined h f d = reads-marked f d 0x00 refl reads-ret
 reads-plain null h f d = reads-marked f d 0x01 refl reads-ret
 reads-plain (boolean false) h f d = reads-marked f d 0x02 refl reads-ret

@@ -4,20 +4,20 @@ use mathlib.Core.List.{List}
 use Prim.Native.Nat.{ℕ, zero, suc, _+_, _*_, _<_}
 use native.Mathlib.Omega.{arith}
 use native.Mathlib.Numerals.{add-one}
-use lib.ListN.{set}
+use lib.ListN.{length, set}
 use lib.Seq.{set-set}
 use Rattle.rows.specs.declared.Cursor.{Cursor}
 use Rattle.rows.specs.declared.Span.{Span}
 use Rattle.rows.specs.declared.Key.{Key}
 use Rattle.rows.specs.Memory.{Memory, noKey, put}
 use Rattle.format.specs.Decide.{onRows, looking, counted, sealedKey}
-use Rattle.format.specs.Reading.{_>>=_, _>>_, Reader, Values, decided, by, entries, pair, pairs}
-use Rattle.format.specs.RowTest.{Given, keyless, keyed, filled}
+use Rattle.format.specs.Reading.{_>>=_, Reader, Values, decided, by, entries, pair, pairsBy, pairs, couple}
+use Rattle.format.specs.RowTest.{Given, keyless, anyKey, fullKey}
 use Rattle.format.proofs.Memories.{withRows}
 use Rattle.format.proofs.Ground.{Land, at, Done, Ext, ext-same, ext-trans, landOf}
 use Rattle.format.proofs.Lands.{Valid, Meets, bare, named, long, Run, ends, run-ext, run-more}
 use Rattle.format.proofs.Stages.{Ok, keep-ext, Stage, stage-put, stage-ext, stage-later, Val}
-use Rattle.format.proofs.Posts.{Post, stops, gets, post-then, post-map, post-by, wp-counted, wp-sealed}
+use Rattle.format.proofs.Posts.{Post, stops, gets, post-then, post-map, post-by, wp-counted, wp-key-end, wp-sealed}
 use Rattle.format.proofs.Heard.{Heard, text-heard}
 use Rattle.rows.specs.Memory.{colEnd}
 
@@ -91,25 +91,28 @@ module _ (value : Values) (reads : Reads value) (m₀ : Memory) (c₀ : Cursor) 
       let e : suc (1 * done) ≡ 1 * suc done = omega arith in
       post-map _ (child _ m c bs bare i) (λ x m c i bs. count-post 1 done m c bs (rw e at i))) n 0 m c bs i
 
+  -- pairs of a dictionary: two children each
   pub doubles-post : (n : ℕ) (m : Memory) (c : Cursor) (bs : List ℕ) → Counted keyless 2 0 m c
-      → Post (λ x m c. (n : ℕ) × Counted keyless 2 n m c) (entries (λ done. value noKey >> value noKey) (c₀ .rows) j n 0 m c bs)
+      → Post (λ x m c. (n : ℕ) × Counted keyless 2 n m c) (entries (couple value (c₀ .rows)) (c₀ .rows) j n 0 m c bs)
+  unfolding couple
   doubles-post n m c bs i = entries-post (Counted keyless 2) _ (c₀ .rows) j (λ done m c bs i.
       let e : suc (suc (2 * done)) ≡ 2 * suc done = omega arith in
-      post-then _ _ (post-map _ (child _ m c bs bare i) (λ x m c i bs.
-      post-map _ (child _ m c bs bare i) (λ x m c i bs. count-post 2 done m c bs (rw e at i))))) n 0 m c bs i
+      post-then _ _ (post-then _ _ (post-map _ (child _ m c bs bare i) (λ x m c i bs.
+      post-by _ m bs _ (wp-key-end (c₀ .rows) done (m .rows) c (λ bs.
+      post-map _ (child _ m c bs bare i) (λ x m c i bs. count-post 2 done m c bs (rw e at i)))))))) n 0 m c bs i
 
-  pub sealed-post : (first n : ℕ) (m : Memory) (c : Cursor) (bs : List ℕ) → Counted keyed 1 0 m c
-      → Post (λ x m c. (n : ℕ) × Counted keyed 1 n m c) (entries (λ done. by (looking (λ m. sealedKey (first + done) (m .names))) >>= value) (c₀ .rows) j
+  pub sealed-post : (first n : ℕ) (m : Memory) (c : Cursor) (bs : List ℕ) → Counted anyKey 1 0 m c
+      → Post (λ x m c. (n : ℕ) × Counted anyKey 1 n m c) (entries (λ done. by (looking (λ m. sealedKey (first + done) (m .names))) >>= value) (c₀ .rows) j
       n 0 m c bs)
-  sealed-post first n m c bs i = entries-post (Counted keyed 1) _ (c₀ .rows) j (λ done m c bs i.
+  sealed-post first n m c bs i = entries-post (Counted anyKey 1) _ (c₀ .rows) j (λ done m c bs i.
       let e : suc (1 * done) ≡ 1 * suc done = omega arith in
       post-then _ _ (post-by _ m bs _ (wp-sealed c (first + done) (m .names) (λ l bs.
       post-map _ (child _ m c bs (named (i .stage .ok .names (first + done) l)) i) (λ x m c i bs. count-post 1 done m c bs (rw e at i)))))) n 0 m c bs i
 
   pair-post : (done : ℕ) (more : Reader Unit) (s : Span) (z : ℕ) (m : Memory) (c : Cursor) (bs : List ℕ) → s .size ≡ z → Valid (landOf m c) s
-      → Counted filled 1 done m c
-      → ((m : Memory) (c : Cursor) (bs : List ℕ) → Counted filled 1 (suc done) m c → Post (λ x m c. (n : ℕ) × Counted filled 1 n m c) (more m c bs))
-      → Post (λ x m c. (n : ℕ) × Counted filled 1 n m c) (pair value (c₀ .rows) j done more s z m c bs)
+      → Counted fullKey 1 done m c
+      → ((m : Memory) (c : Cursor) (bs : List ℕ) → Counted fullKey 1 (suc done) m c → Post (λ x m c. (n : ℕ) × Counted fullKey 1 n m c) (more m c bs))
+      → Post (λ x m c. (n : ℕ) × Counted fullKey 1 n m c) (pair value (c₀ .rows) j done more s z m c bs)
   unfolding pair
   pair-post done more s zero m c bs q v i h = gets (done, i)
   pair-post done more s (suc z) m c bs q v i h =
@@ -117,10 +120,16 @@ module _ (value : Values) (reads : Reads value) (m₀ : Memory) (c₀ : Cursor) 
       post-then _ _ (post-then _ _ (post-map _ (child _ m c bs (long v (omega arith)) i) (λ x m c i bs.
       post-map _ (count-post 1 done m c bs (rw e at i)) (λ x m c i bs. h m c bs i))))
 
-  pub pairs-post : (most done : ℕ) (m : Memory) (c : Cursor) (bs : List ℕ) → Counted filled 1 done m c
-      → Post (λ x m c. (n : ℕ) × Counted filled 1 n m c) (pairs value (c₀ .rows) j most done m c bs)
-  unfolding pairs
-  pairs-post zero done m c bs i = stops
-  pairs-post (suc most) done m c bs i =
+  -- pairs with any fuel, and with the one that they are read with
+  pairs-by : (most done : ℕ) (m : Memory) (c : Cursor) (bs : List ℕ) → Counted fullKey 1 done m c
+      → Post (λ x m c. (n : ℕ) × Counted fullKey 1 n m c) (pairsBy value (c₀ .rows) j most done m c bs)
+  unfolding pairsBy
+  pairs-by zero done m c bs i = stops
+  pairs-by (suc most) done m c bs i =
       post-then _ _ (post-map _ (text-heard (i .stage) bs) (λ s m c h bs.
-      pair-post done _ s (s .size) m c bs refl (h .valid) (loop-heard i h) (pairs-post most (suc done))))
+      pair-post done _ s (s .size) m c bs refl (h .valid) (loop-heard i h) (pairs-by most (suc done))))
+
+  pub pairs-post : (m : Memory) (c : Cursor) (bs : List ℕ) → Counted fullKey 1 0 m c
+      → Post (λ x m c. (n : ℕ) × Counted fullKey 1 n m c) (pairs value (c₀ .rows) j 0 m c bs)
+  unfolding pairs
+  pairs-post m c bs i = pairs-by (suc (length bs)) 0 m c bs i

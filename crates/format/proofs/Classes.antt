@@ -4,7 +4,7 @@ use mathlib.Core.Bool.{Bool, true, false, cond}
 use mathlib.Core.List.{List, [], _∷_}
 use Prim.Native.Nat.{ℕ, suc, _+_, _-_, _^_, _%_, _<_, _≤_}
 use native.Mathlib.Omega.{arith}
-use borrow.Author.Tests.{le-leb, ltb-false, eqb-true, eqb-false}
+use borrow.Author.Tests.{lt-ltb, le-leb, ltb-false, eqb-true, eqb-false}
 use lib.Dec.{ltb, eqb}
 use lib.ListN.{length, getD}
 use lib.Seq.{drop-cons}
@@ -31,7 +31,7 @@ unfolding signedFits columnOf integerOf
 signed-column w = on-bool (ltb (w % 2 ^ 29) (2 ^ 28))
     (λ e. rw (e, e))
     (λ e. let l = ltb-false (w % 2 ^ 29) (2 ^ 28) e in
-    rw (e, le-leb (2 ^ 64 - 2 ^ 28) (2 ^ 64 - suc (2 ^ 29 - suc (w % 2 ^ 29))) (omega arith))
+    rw (e, le-leb (2 ^ 64 - 2 ^ 28) (2 ^ 64 - suc (2 ^ 29 - suc (w % 2 ^ 29))) (omega arith), lt-ltb (2 ^ 64 - suc (2 ^ 29 - suc (w % 2 ^ 29))) (2 ^ 64) (omega arith))
     (or-true (ltb (2 ^ 64 - suc (2 ^ 29 - suc (w % 2 ^ 29))) (2 ^ 28))))
 
 -- ---- classes

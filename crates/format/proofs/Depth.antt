@@ -17,8 +17,8 @@ use Rattle.wire.specs.declared.Shape.{Shape}
 use Rattle.wire.specs.declared.Shape.the-variants.{Object, Known, External, Inline}
 use Rattle.format.specs.Decide.{Out, stop, lift, onRows, marker, kindOf}
 use Rattle.format.specs.Decide.{Body, xml, date, array, bytes, raw, objects, dictionary, Kind, leaf, integer, double, string, object, sized}
-use Rattle.format.specs.Reading.{Result, ok, bad, bind, _>>=_, byte, Reader, Values, by, decided, entries, pair, pairs, dynamics, members, inlined}
-use Rattle.format.specs.Reading.{objectOf, newOf, sizedOf, marked, value, Ended, refused, ended, unlessFault, reading}
+use Rattle.format.specs.Reading.{Result, ok, bad, bind, _>>=_, byte, Reader, Values, by, decided, entries, pair, pairsBy, pairs, couple, dynamics, members}
+use Rattle.format.specs.Reading.{inlined, objectOf, newOf, sizedOf, marked, value, Ended, refused, ended, unlessFault, reading}
 
 -- ---- results of which the second had no less depth
 
@@ -54,15 +54,23 @@ module _ {v w : Values} (h : (k : Key) → Under (v k) (w k)) where
   less-pair row col done l s zero m c bs = same
   less-pair row col done l s (suc n) m c bs = search (lesser, h, l)
 
-  less-pairs : (row col most done : ℕ) → Under (pairs v row col most done) (pairs w row col most done)
+  less-pairs-by : (row col f done : ℕ) → Under (pairsBy v row col f done) (pairsBy w row col f done)
+  unfolding pairsBy
+  less-pairs-by row col zero done m c bs = same
+  less-pairs-by row col (suc f) done m c bs = search (lesser, less-pair, less-pairs-by row col f (suc done))
+
+  less-pairs : (row col done : ℕ) → Under (pairs v row col done) (pairs w row col done)
   unfolding pairs
-  less-pairs row col zero done m c bs = same
-  less-pairs row col (suc most) done m c bs = search (lesser, less-pair, less-pairs row col most (suc done))
+  less-pairs row col done m c bs = less-pairs-by row col _ done m c bs
+
+  less-couple : (row done : ℕ) → Under (couple v row done) (couple w row done)
+  unfolding couple
+  less-couple row done m c bs = search (lesser, h)
 
   less-dynamics : (row n : ℕ) → Under (dynamics v row n) (dynamics w row n)
   unfolding dynamics
   less-dynamics row zero m c bs = same
-  less-dynamics row (suc n) m c bs = less-pairs _ _ _ _ m c bs
+  less-dynamics row (suc n) m c bs = less-pairs _ _ _ m c bs
 
   less-members : (row : ℕ) (t : Trait) → Under (members v row t) (members w row t)
   unfolding members
@@ -87,7 +95,7 @@ module _ {v w : Values} (h : (k : Key) → Under (v k) (w k)) where
   less-new row bytes n m c bs = same
   less-new row (raw k) n m c bs = same
   less-new row objects n m c bs = search (lesser, h, less-entries) depth 8
-  less-new row dictionary n m c bs = search (lesser, h, less-entries) depth 8
+  less-new row dictionary n m c bs = search (lesser, less-entries, less-couple) depth 8
 
   less-sized : (row : ℕ) (body : Body) (z : Size) → Under (sizedOf v row body z) (sizedOf w row body z)
   unfolding sizedOf

@@ -16,6 +16,7 @@ use Rattle.wire.specs.Date as y
 use Rattle.utf8.specs.States as x
 use Rattle.utf8.specs.Grammar as g
 use Rattle.rows.specs.Memory as m
+use Rattle.format.specs.Refusals as o
 use Rattle.format.specs.Decide as d
 use Rattle.format.specs.Reading as r
 use Rattle.format.specs.Step as s
@@ -41,7 +42,8 @@ row kind key begin size number count count2 end = kind ∷ key ++ begin ∷ size
 abbrev keyless : List ℕ
 keyless = 0 ∷ 0 ∷ 0 ∷ []
 
--- those marked to be proved, two that are not, and three more: a sealed member, a vector of class `*`, a reference
+-- those marked to be proved, two that are not, and seven more: a sealed member, a vector of class `*`, references to an array, to an object, to a date, to
+-- the second trait, and to strings that were a class and a key
 abbrev pub examples : List Example
 examples =
     example [] (refuses 2 0 0)
@@ -66,12 +68,23 @@ examples =
     (gives 6 (row 16 keyless 0 0 0 1 0 2 ∷ row 2 keyless 0 0 0 0 0 2 ∷ []) (0x2A ∷ []) (0 ∷ 1 ∷ []) (0 ∷ []) [] [])
     ∷ example (0x09 ∷ 0x05 ∷ 0x01 ∷ 0x09 ∷ 0x01 ∷ 0x01 ∷ 0x09 ∷ 0x02 ∷ [])
     (gives 8 (row 9 keyless 0 0 0 0 2 3 ∷ row 9 keyless 0 0 0 0 0 2 ∷ row 18 keyless 0 0 1 0 0 3 ∷ []) [] [] (0 ∷ 1 ∷ []) [] [])
+    ∷ example (0x09 ∷ 0x05 ∷ 0x01 ∷ 0x0A ∷ 0x03 ∷ 0x01 ∷ 0x0A ∷ 0x02 ∷ [])
+    (gives 8 (row 9 keyless 0 0 0 0 2 3 ∷ row 10 keyless 0 0 0 0 0 2 ∷ row 18 keyless 0 0 1 0 0 3 ∷ []) [] [] (0 ∷ 1 ∷ []) (replicate 5 0) [])
+    ∷ example (0x09 ∷ 0x05 ∷ 0x01 ∷ 0x08 ∷ 0x01 ∷ 0x3F ∷ 0xF0 ∷ replicate 6 0x00 ++ 0x08 ∷ 0x02 ∷ [])
+    (gives 15 (row 9 keyless 0 0 0 0 2 3 ∷ row 8 keyless 0 0 1 0 0 2 ∷ row 18 keyless 0 0 1 0 0 3 ∷ []) [] [] (0 ∷ 1 ∷ []) [] [])
+    ∷ example (0x09 ∷ 0x07 ∷ 0x01 ∷ 0x0A ∷ 0x03 ∷ 0x01 ∷ 0x0A ∷ 0x13 ∷ 0x01 ∷ 0x03 ∷ 0x61 ∷ 0x01 ∷ 0x0A ∷ 0x05 ∷ 0x01 ∷ [])
+    (gives 15 (row 9 keyless 0 0 0 0 3 6 ∷ row 10 keyless 0 0 0 0 0 2 ∷ row 10 keyless 0 0 0 1 0 4 ∷ row 2 (1 ∷ 0 ∷ 1 ∷ []) 0 0 0 0 0 4
+    ∷ row 10 keyless 0 0 0 1 0 6 ∷ row 2 (1 ∷ 0 ∷ 1 ∷ []) 0 0 0 0 0 6 ∷ [])
+    (0x61 ∷ []) (0 ∷ 1 ∷ []) (0 ∷ 1 ∷ 2 ∷ 4 ∷ []) (replicate 9 0 ++ 1 ∷ []) (0 ∷ 1 ∷ []))
+    ∷ example (0x0A ∷ 0x0B ∷ 0x03 ∷ 0x61 ∷ 0x03 ∷ 0x62 ∷ 0x06 ∷ 0x00 ∷ 0x00 ∷ 0x06 ∷ 0x02 ∷ 0x01 ∷ [])
+    (gives 12 ((10 ∷ keyless ++ 0 ∷ 1 ∷ 1 ∷ 0 ∷ 0 ∷ 0 ∷ 2 ∷ 3 ∷ []) ∷ row 6 (1 ∷ 1 ∷ 1 ∷ []) 0 1 0 0 0 2 ∷ row 6 (1 ∷ 0 ∷ 1 ∷ []) 1 1 0 0 0 3 ∷ [])
+    (0x61 ∷ 0x62 ∷ []) (0 ∷ 1 ∷ 1 ∷ 1 ∷ []) (0 ∷ []) (0 ∷ 1 ∷ 1 ∷ 0 ∷ 0 ∷ []) [])
     ∷ []
 
--- ---- the loans: four rows, sixteen bytes, and a few entries of the others, with something else in them before
+-- ---- the loans: six rows, sixteen bytes, and a few entries of the others, with something else in them before
 
 abbrev lent : m.Memory
-lent = m.memory (replicate 48 7) (replicate 16 7) (replicate 4 7) (replicate 4 7) (replicate 5 7) (replicate 2 7)
+lent = m.memory (replicate 72 7) (replicate 16 7) (replicate 4 7) (replicate 4 7) (replicate 10 7) (replicate 2 7)
 
 abbrev padded : ℕ → List ℕ → List ℕ
 padded n l = l ++ replicate (n - length l) 0
@@ -82,8 +95,8 @@ joined (x ∷ l) = x ++ joined l
 
 -- what is wanted of the loans, and the answer, where so many bytes count as taken
 abbrev loans : Want → m.Memory
-loans (gives n R B T O U N) = m.memory (padded 48 (joined R)) (padded 16 B) (padded 4 T) (padded 4 O) (padded 5 U) (padded 2 N)
-loans (refuses number told place) = m.memory (replicate 48 0) (replicate 16 0) (replicate 4 0) (replicate 4 0) (replicate 5 0) (replicate 2 0)
+loans (gives n R B T O U N) = m.memory (padded 72 (joined R)) (padded 16 B) (padded 4 T) (padded 4 O) (padded 10 U) (padded 2 N)
+loans (refuses number told place) = m.memory (replicate 72 0) (replicate 16 0) (replicate 4 0) (replicate 4 0) (replicate 10 0) (replicate 2 0)
 
 abbrev answer : Want → (ℕ → ℕ) → Answer
 answer (gives n R B T O U N) taken = Finished (length R) (length B) (taken n)
@@ -138,18 +151,18 @@ wanted (example bytes w) = outcome (a.read (answer w (λ n. n)) (loans w)) (drib
 -- ---- the proof over the list
 
 pub proved : map becomes examples ≡ map wanted examples
-unfolding u.partOf u.groups u.moreOf u.u29 w.sizeOf w.shapeOf z.integerOf z.columnOf z.ofColumn n.numberOf n.bytesOf n.digitOf y.finite y.refusedDate y.dateOf
+unfolding u.partOf u.groups u.moreOf u.u29 w.sizeOf w.shapeOf z.integerOf z.columnOf z.ofColumn n.numberOf n.bytesOf n.digitOf y.finite y.refusedDate y.dateOf o.tells o.sayable
     x.stepOf x.foldOf g.follow g.validText m.messageLimit m.openLimit m.loanFault m.zeroed m.putRow m.columnAt d.kindOf d.newRow d.marker d.closed d.numbered
-    d.integerEnd d.dateEnd d.bodied d.classed d.objectClass d.vectorClass d.flagged d.counted d.grown d.oldText d.reserved d.stored d.judged d.textEnd d.entered
-    d.referred d.traitHolds d.oldTrait d.named d.traitEnd d.sealedKey d.starred r.byte r.u29 r.number r.chars r.fill r.textOf r.text r.entries r.pair r.pairs
+    d.integerEnd d.dateEnd d.bodied d.classed d.objectClass d.vectorClass d.flagged d.counted d.keyEnd d.grown d.oldText d.reserved d.stored d.judged d.textEnd d.entered
+    d.referred d.traitHolds d.oldTrait d.named d.traitEnd d.sealedKey d.starred r.byte r.u29 r.number r.chars r.fill r.textOf r.text r.entries r.pair r.pairsBy r.pairs r.couple
     r.names r.dynamics r.members r.inlined r.objectOf r.room r.charsOf r.filled r.newOf r.sizedOf r.marked r.value r.ended r.reading s.taskOf s.frameOf s.go
     s.entry s.pop s.keyed s.naming s.had s.textDone s.reservedFor s.stringSized s.roomy s.texting s.filling s.opened s.bodySized s.objectShaped s.worded
-    s.numberDone s.flagDone s.rawGrown s.begun s.act s.step s.run s.end s.begin k.frameAt k.framesOf k.laid k.bodyPurpose k.modeOf k.useWork k.workOf k.stateOf
-    k.numbersOf k.lentOf k.sameLent k.countsFit k.useFits k.modeFits k.sound k.soundStep k.afterStep k.byteStep t.byte t.bytes t.word t.chars t.entered t.textOf
-    t.text t.opened t.shut t.finishedObject t.objectAt t.names t.newTraits t.given t.starred t.trees t.sealed t.pairsFrom t.pairs t.dynamics t.entries t.members
+    s.numberDone s.flagDone s.rawGrown s.begun s.shown s.act s.step s.run s.end s.begin k.frameAt k.framesOf k.laid k.bodyPurpose k.modeOf k.useWork k.workOf k.stateOf
+    k.numbersOf k.lentOf k.sameLent k.countsFit k.useFits k.wordFits k.modeFits k.sound k.soundStep k.afterStep k.byteStep t.byte t.bytes t.word t.chars t.keptText t.sizeSays t.objectSays t.follows t.textOf
+    t.text t.opened t.shut t.finishedObject t.objectAt t.names t.newTraits t.classGiven t.starred t.trees t.sealed t.pairsFrom t.pairs t.dynamics t.entries t.members
     t.objectOf t.newOf t.sizedOf t.marked t.value t.standard t.count t.countPairs t.countEntries t.nameBytes t.traitWord t.encodePlain t.arrayHead t.objectHead
     t.vectorHead t.dictionaryHead t.encode t.encodeTrees t.encodePairs t.encodeValues t.encodeDynamic t.encodeEntries v.col v.part v.home v.after v.treesAt
-    v.pairsAt v.entriesAt v.node v.treeAt v.unfolded f.spanFits f.markFits f.columnsFit f.signedFits f.valueFits f.children f.closes f.gives f.givenIn f.given
+    v.pairsAt v.entriesAt v.node v.treeAt v.unfolded f.spanFits f.markFits f.columnsFit f.signedFits f.valueFits f.children f.closes f.gives f.parentIn f.numberIn f.given
     f.wellFormed f.numberWritable f.bodyWritable f.keyWritable f.writable f.testFrom f.tested e._then_ e.these e.streamBytes e.isDeep e.emitTrees e.emitPairs
     e.emitValues e.emitDynamic e.emitEntries e.emitIn e.emit e.settle e.writing a.beginCall a.runHeld a.takenBy a.feedCall a.endCall a.readCall a.writeCall
     ieee.odd ieee.ofFields ieee.ofBits ieee.toUnsigned
@@ -188,18 +201,18 @@ pub others :
     × (deeply (again 64 (0x09 ∷ 0x03 ∷ 0x01 ∷ []) (0x01 ∷ [])) ≡ Refused 9 0 193 0)
     × (a.writeCall (joined (row 9 keyless 0 0 0 0 2 3 ∷ row 6 keyless 0 1 0 0 0 2 ∷ row 6 keyless 0 1 0 0 0 3 ∷ [])) (0x61 ∷ []) (replicate 12 7)
     ≡ a.output (Bytes 9) (0x09 ∷ 0x05 ∷ 0x01 ∷ 0x06 ∷ 0x03 ∷ 0x61 ∷ 0x06 ∷ 0x03 ∷ 0x61 ∷ 7 ∷ 7 ∷ 7 ∷ []))
-unfolding u.partOf u.groups u.moreOf u.u29 w.sizeOf w.shapeOf z.integerOf z.columnOf z.ofColumn n.numberOf n.bytesOf n.digitOf y.finite y.refusedDate y.dateOf
+unfolding u.partOf u.groups u.moreOf u.u29 w.sizeOf w.shapeOf z.integerOf z.columnOf z.ofColumn n.numberOf n.bytesOf n.digitOf y.finite y.refusedDate y.dateOf o.tells o.sayable
     x.stepOf x.foldOf g.follow g.validText m.messageLimit m.openLimit m.loanFault m.zeroed m.putRow m.columnAt d.kindOf d.newRow d.marker d.closed d.numbered
-    d.integerEnd d.dateEnd d.bodied d.classed d.objectClass d.vectorClass d.flagged d.counted d.grown d.oldText d.reserved d.stored d.judged d.textEnd d.entered
-    d.referred d.traitHolds d.oldTrait d.named d.traitEnd d.sealedKey d.starred r.byte r.u29 r.number r.chars r.fill r.textOf r.text r.entries r.pair r.pairs
+    d.integerEnd d.dateEnd d.bodied d.classed d.objectClass d.vectorClass d.flagged d.counted d.keyEnd d.grown d.oldText d.reserved d.stored d.judged d.textEnd d.entered
+    d.referred d.traitHolds d.oldTrait d.named d.traitEnd d.sealedKey d.starred r.byte r.u29 r.number r.chars r.fill r.textOf r.text r.entries r.pair r.pairsBy r.pairs r.couple
     r.names r.dynamics r.members r.inlined r.objectOf r.room r.charsOf r.filled r.newOf r.sizedOf r.marked r.value r.ended r.reading s.taskOf s.frameOf s.go
     s.entry s.pop s.keyed s.naming s.had s.textDone s.reservedFor s.stringSized s.roomy s.texting s.filling s.opened s.bodySized s.objectShaped s.worded
-    s.numberDone s.flagDone s.rawGrown s.begun s.act s.step s.run s.end s.begin k.frameAt k.framesOf k.laid k.bodyPurpose k.modeOf k.useWork k.workOf k.stateOf
-    k.numbersOf k.lentOf k.sameLent k.countsFit k.useFits k.modeFits k.sound k.soundStep k.afterStep k.byteStep t.byte t.bytes t.word t.chars t.entered t.textOf
-    t.text t.opened t.shut t.finishedObject t.objectAt t.names t.newTraits t.given t.starred t.trees t.sealed t.pairsFrom t.pairs t.dynamics t.entries t.members
+    s.numberDone s.flagDone s.rawGrown s.begun s.shown s.act s.step s.run s.end s.begin k.frameAt k.framesOf k.laid k.bodyPurpose k.modeOf k.useWork k.workOf k.stateOf
+    k.numbersOf k.lentOf k.sameLent k.countsFit k.useFits k.wordFits k.modeFits k.sound k.soundStep k.afterStep k.byteStep t.byte t.bytes t.word t.chars t.keptText t.sizeSays t.objectSays t.follows t.textOf
+    t.text t.opened t.shut t.finishedObject t.objectAt t.names t.newTraits t.classGiven t.starred t.trees t.sealed t.pairsFrom t.pairs t.dynamics t.entries t.members
     t.objectOf t.newOf t.sizedOf t.marked t.value t.standard t.count t.countPairs t.countEntries t.nameBytes t.traitWord t.encodePlain t.arrayHead t.objectHead
     t.vectorHead t.dictionaryHead t.encode t.encodeTrees t.encodePairs t.encodeValues t.encodeDynamic t.encodeEntries v.col v.part v.home v.after v.treesAt
-    v.pairsAt v.entriesAt v.node v.treeAt v.unfolded f.spanFits f.markFits f.columnsFit f.signedFits f.valueFits f.children f.closes f.gives f.givenIn f.given
+    v.pairsAt v.entriesAt v.node v.treeAt v.unfolded f.spanFits f.markFits f.columnsFit f.signedFits f.valueFits f.children f.closes f.gives f.parentIn f.numberIn f.given
     f.wellFormed f.numberWritable f.bodyWritable f.keyWritable f.writable f.testFrom f.tested e._then_ e.these e.streamBytes e.isDeep e.emitTrees e.emitPairs
     e.emitValues e.emitDynamic e.emitEntries e.emitIn e.emit e.settle e.writing a.beginCall a.runHeld a.takenBy a.feedCall a.endCall a.readCall a.writeCall
     ieee.odd ieee.ofFields ieee.ofBits ieee.toUnsigned

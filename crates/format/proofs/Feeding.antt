@@ -7,7 +7,6 @@ use Prim.Native.Nat.{ℕ, zero, suc, _+_, _*_, _-_, _/_, _^_}
 use native.Mathlib.Omega.{arith}
 use lib.Dec.{leb, ltb, eqb}
 use lib.ListN.{length, length-replicate}
-use borrow.Author.Tests.{leb-true, leb-false}
 use Rattle.rows.specs.declared.Cursor.{Cursor}
 use Rattle.rows.specs.declared.Span.{Span}
 use Rattle.rows.specs.declared.Key.{Key}
@@ -25,25 +24,27 @@ use Rattle.wire.specs.Big.{digitOf}
 use Rattle.format.specs.declared.Frame.{Frame}
 use Rattle.format.specs.Decide.{Out, stop, give, refuse, lost, lift, looking, onRows, onStrings, onTraits, onNames, Body, xml, date, array, bytes, raw}
 use Rattle.format.specs.Decide.{objects, dictionary, Kind, leaf, integer, double, string, object, sized, marker, closed, numbered, integerEnd, dateEnd}
-use Rattle.format.specs.Decide.{bodied, vectorClass, fixed, weak, flagged, counted, judged, textEnd, traitOf, named, traitEnd, sealedKey, starred}
+use Rattle.format.specs.Decide.{bodied, vectorClass, fixed, weak, flagged, counted, keyEnd, judged, textEnd, traitOf, named, traitEnd, sealedKey, starred}
 use Rattle.format.specs.Decide.{objectClass, oldText, reserved, stored, entered, referred, oldTrait}
 use Rattle.format.specs.Reading.{refusal, ended, reading, taken, ok, bad, bind, _>>=_, _>>_, ret, Result, Reader, decided, by, byte, u29, number, chars}
-use Rattle.format.specs.Reading.{fill, textOf, text, plain, Values, entries, pair, pairs, names, dynamics as dynamicsOf, members as membersRead}
+use Rattle.format.specs.Reading.{fill, textOf, text, plain, Values, entries, pair, pairs, couple, names, dynamics as dynamicsOf, members as membersRead}
 use Rattle.format.specs.Reading.{inlined, objectOf, room, charsOf, filled, newOf, sizedOf, marked, value, Ended, finished, refused, onPart as partRead}
 use Rattle.format.specs.Step.{Pairing, assoc, dynamics, dense, vector, countOf, Task, pairsOf, itemsOf, membersOf, keysOf, valuesOf, strange, taskOf}
 use Rattle.format.specs.Step.{frameOf, Use, forString, forKey, forClass, forExternal, forName, forVector, Text, xmlText, tableText, Word, integerWord}
 use Rattle.format.specs.Step.{objectWord, sizeWord, textWord, Number, doubleBits, dateBits, Flag, rawFlag, objectsFlag, dictionaryFlag, Raw, rawVector}
-use Rattle.format.specs.Step.{Mode, atMarker, atWord, atNumber, atFlag, atText, atRaw, astray, State, wait, over, none, on, atString, nextKey, go}
+use Rattle.format.specs.Step.{Mode, atMarker, atWord, atNumber, atFlag, atText, atRaw, astray, State, wait, over, none, on, atString, go}
 use Rattle.format.specs.Step.{entry, pop, onward, keyed, members, naming, had, textDone, reservedFor, stringSized, roomy, texting, rawRow, filling}
-use Rattle.format.specs.Step.{opened, bodySized, objectShaped, worded, numberDone, flagDone, rawGrown, begun, onPart, act, step, run, begin, end}
+use Rattle.format.specs.Step.{opened, bodySized, objectShaped, worded, numberDone, flagDone, rawGrown, begun, onPart, shown, act, step, run, begin, end}
 use Rattle.format.proofs.Tests.{on-bool, clash}
-use Rattle.format.proofs.Placed.{Placed, placed-act, Says, unknown, absent, unfinished, external, undated, malformed, deep, full, astrays, says-closed}
-use Rattle.format.proofs.Placed.{says-numbered, says-integer, says-date, says-bodied, says-object, says-vector, says-flagged, says-counted}
-use Rattle.format.proofs.Placed.{says-referred, says-marker, says-old-text, says-reserved, says-stored, says-judged, says-text-end, says-entered}
-use Rattle.format.proofs.Placed.{says-old-trait, says-named, says-trait-end, says-sealed, says-starred, says-use, says-raw}
+use Rattle.format.proofs.Shorter.{value-pairs}
+use Rattle.format.proofs.Reasons.{Says, stops, goes, unknown, absent, unfinished, external, undated, malformed, deep, full, astrays, says-closed}
+use Rattle.format.proofs.Reasons.{says-numbered, says-integer, says-date, says-bodied, says-object, says-vector, says-flagged, says-counted, says-key-end}
+use Rattle.format.proofs.Reasons.{says-referred, says-marker, says-old-text, says-reserved, says-stored, says-judged, says-text-end, says-entered}
+use Rattle.format.proofs.Reasons.{says-old-trait, says-named, says-trait-end, says-sealed, says-starred, says-use, says-raw}
+use Rattle.format.proofs.Placed.{Placed, placed-act}
 use Rattle.format.proofs.Placed as placed
 use Rattle.format.specs.Refusals as refusals
-use Rattle.rows.specs.Memory.{rowWidth}
+use Rattle.rows.specs.Memory.{rowWidth, spanWidth, spanUsed, spanAt}
 
 -- ---- what is done after a reader
 
@@ -81,7 +82,7 @@ abbrev items : Values → ℕ → ℕ → ℕ → ℕ → Reader Unit
 items rd row col n done = entries (λ done. rd noKey) row col n done
 
 abbrev doubles : Values → ℕ → ℕ → ℕ → Reader Unit
-doubles rd row n done = entries (λ done. rd noKey >> rd noKey) row colCount n done
+doubles rd row n done = entries (couple rd row) row colCount n done
 
 abbrev sealeds : Values → ℕ → ℕ → ℕ → ℕ → Reader Unit
 sealeds rd row first n done = entries (λ done. by (looking (λ m. sealedKey (first + done) (m .names))) >>= rd) row colCount n done
@@ -105,11 +106,10 @@ afterPairs rd (dynamics row done) = close row
 
 -- they are read before a key of them, and after it
 pairing : Values → Pairing → Reader Unit
-pairing rd p = pairs rd (rowOf p) (colOf p) (messageLimit - doneOf p) (doneOf p) >> afterPairs rd p
+pairing rd p = pairs rd (rowOf p) (colOf p) (doneOf p) >> afterPairs rd p
 
 afterKey : Values → Pairing → Span → ℕ → Reader Unit
-afterKey rd p s l =
-    pair rd (rowOf p) (colOf p) (doneOf p) (pairs rd (rowOf p) (colOf p) (messageLimit - suc (doneOf p)) (suc (doneOf p))) s l >> afterPairs rd p
+afterKey rd p s l = pair rd (rowOf p) (colOf p) (doneOf p) (pairs rd (rowOf p) (colOf p) (suc (doneOf p))) s l >> afterPairs rd p
 
 task : Values → Task → Reader Unit
 task rd (pairsOf p) = pairing rd p
@@ -125,7 +125,7 @@ counts (pairsOf (assoc row n done)) = by (onRows (counted row colCount done)) >>
 counts (pairsOf (dynamics row done)) = by (onRows (counted row colCount2 done)) >> ret (pairsOf (dynamics row (suc done)))
 counts (itemsOf i row n done) = by (onRows (counted row (countOf i) done)) >> ret (itemsOf i row n (suc done))
 counts (membersOf row n done first y) = by (onRows (counted row colCount done)) >> ret (membersOf row n (suc done) first y)
-counts (keysOf row n done) = ret (valuesOf row n done)
+counts (keysOf row n done) = by (looking (λ m. keyEnd row done (m .rows))) >> ret (valuesOf row n done)
 counts (valuesOf row n done) = by (onRows (counted row colCount done)) >> ret (keysOf row n (suc done))
 counts strange = by (λ m c. lost)
 
@@ -175,7 +175,7 @@ rest (f ∷ ts) = λ x m c bs. andThen (counts (taskOf f) m c bs) (λ t m c bs. 
 
 -- what a mode still has to read of its value
 left : Mode → List Frame → Reader Unit
-left (atMarker k) ts = value (openLimit - length ts) k
+left (atMarker k) ts = value (openLimit - length ts) (shown k)
 left (atWord w n part) ts = u29 n part >>= afterWord (inner ts) w
 left (atNumber d n part) ts = number n part >>= afterNumber d
 left (atFlag f) ts = byte >>= afterFlag (inner ts) f
@@ -199,18 +199,25 @@ calm? : {S A : Type 0} → Out S A → Bool
 calm? (stop n told place) = not (eqb n refusals.unexpectedEnd)
 calm? (give a s c) = true
 
-calm-says : {S A : Type 0} {b p : ℕ} {o : Out S A} → Says b p o → calm? o ≡ true
+-- whatever the reasons
+abbrev Reason : Type 0
+Reason = Unit {0}
+
+abbrev Loaned : ℕ → Type 0
+Loaned n = Unit {0}
+
+calm-says : {S A : Type 0} {D : Type 0} {E : ℕ → Type 0} {b p : ℕ} {o : Out S A} → Says D E b p o → calm? o ≡ true
 unfolding calm?
-calm-says (placed.stops (unknown h e)) = refl
-calm-says (placed.stops (absent e)) = refl
-calm-says (placed.stops (unfinished e)) = refl
-calm-says (placed.stops (external e)) = refl
-calm-says (placed.stops (undated e)) = refl
-calm-says (placed.stops (malformed e)) = refl
-calm-says (placed.stops (deep e)) = refl
-calm-says (placed.stops (full h e)) = refl
-calm-says (placed.stops astrays) = refl
-calm-says (placed.goes e) = refl
+calm-says (stops (unknown h e)) = refl
+calm-says (stops (absent e)) = refl
+calm-says (stops (unfinished e)) = refl
+calm-says (stops (external e)) = refl
+calm-says (stops (undated e)) = refl
+calm-says (stops (malformed e)) = refl
+calm-says (stops (deep d e)) = refl
+calm-says (stops (full h e)) = refl
+calm-says (stops astrays) = refl
+calm-says (goes e) = refl
 
 calm-lift : {S A : Type 0} (f : S → Memory) (o : Out S A) → calm? (lift f o) ≡ calm? o
 unfolding calm?
@@ -219,76 +226,79 @@ calm-lift f (give a s c) = refl
 
 module _ (c : Cursor) where
   calm-closed : (row : ℕ) (R : List ℕ) → calm? (closed row R c) ≡ true
-  calm-closed row R = calm-says (says-closed {b = 0} {p = c .at} c refl row R)
+  calm-closed row R = calm-says (says-closed {D = Reason} {E = Loaned} {b = 0} {p = c .at} c refl row R)
 
   calm-numbered : (row n : ℕ) (R : List ℕ) → calm? (numbered row n R c) ≡ true
-  calm-numbered row n R = calm-says (says-numbered {b = 0} {p = c .at} c refl row n R)
+  calm-numbered row n R = calm-says (says-numbered {D = Reason} {E = Loaned} {b = 0} {p = c .at} c refl row n R)
 
   calm-integer : (row w : ℕ) (R : List ℕ) → calm? (integerEnd row w R c) ≡ true
-  calm-integer row w R = calm-says (says-integer {b = 0} {p = c .at} c refl row w R)
+  calm-integer row w R = calm-says (says-integer {D = Reason} {E = Loaned} {b = 0} {p = c .at} c refl row w R)
 
   calm-date : (row bits : ℕ) (R : List ℕ) → calm? (dateEnd row bits R c) ≡ true
-  calm-date row bits R = calm-says (says-date {b = 0} {p = c .at} c refl row bits R)
+  calm-date row bits R = calm-says (says-date {D = Reason} {E = Loaned} {b = 0} {p = c .at} c refl row bits R)
 
   calm-bodied : (row : ℕ) (s : Span) (R : List ℕ) → calm? (bodied row s R c) ≡ true
-  calm-bodied row s R = calm-says (says-bodied {b = 0} {p = c .at} c refl row s R)
+  calm-bodied row s R = calm-says (says-bodied {D = Reason} {E = Loaned} {b = 0} {p = c .at} c refl row s R)
 
   calm-class : (row : ℕ) (t : Trait) (R : List ℕ) → calm? (objectClass row t R c) ≡ true
-  calm-class row t R = calm-says (says-object {b = 0} {p = c .at} c refl row t R)
+  calm-class row t R = calm-says (says-object {D = Reason} {E = Loaned} {b = 0} {p = c .at} c refl row t R)
 
   calm-vector : (row : ℕ) (star : Bool) (s : Span) (R : List ℕ) → calm? (vectorClass row star s R c) ≡ true
-  calm-vector row star s R = calm-says (says-vector {b = 0} {p = c .at} c refl row star s R)
+  calm-vector row star s R = calm-says (says-vector {D = Reason} {E = Loaned} {b = 0} {p = c .at} c refl row star s R)
 
   calm-flagged : (row flag : ℕ) (R : List ℕ) → calm? (flagged row flag R c) ≡ true
-  calm-flagged row flag R = calm-says (says-flagged {b = 0} {p = c .at} c refl row flag R)
+  calm-flagged row flag R = calm-says (says-flagged {D = Reason} {E = Loaned} {b = 0} {p = c .at} c refl row flag R)
 
   calm-counted : (row col done : ℕ) (R : List ℕ) → calm? (counted row col done R c) ≡ true
-  calm-counted row col done R = calm-says (says-counted {b = 0} {p = c .at} c refl row col done R)
+  calm-counted row col done R = calm-says (says-counted {D = Reason} {E = Loaned} {b = 0} {p = c .at} c refl row col done R)
+
+  calm-key-end : (row done : ℕ) (R : List ℕ) → calm? (keyEnd row done R c) ≡ true
+  calm-key-end row done R = calm-says (says-key-end {D = Reason} {E = Loaned} {b = 0} {p = c .at} c refl row done R)
 
   calm-referred : (row i : ℕ) (O R : List ℕ) → calm? (referred row i O R c) ≡ true
-  calm-referred row i O R = calm-says (says-referred {b = 0} {p = c .at} c refl row i O R)
+  calm-referred row i O R = calm-says (says-referred {D = Reason} {E = Loaned} {b = 0} {p = c .at} c refl row i O R)
 
   calm-marker : (k : Key) (left b : ℕ) (R : List ℕ) → calm? (marker k left b R c) ≡ true
-  calm-marker k left b R = calm-says (says-marker {b = b} {p = c .at} c refl k left R)
+  calm-marker k left b R = calm-says (says-marker {D = Reason} {E = Loaned} {b = b} {p = c .at} c refl k left R (λ h e. tt) (λ h l. tt))
 
   calm-old-text : (i : ℕ) (S : List ℕ) → calm? (oldText i S c) ≡ true
-  calm-old-text i S = calm-says (says-old-text {b = 0} {p = c .at} c refl i S)
+  calm-old-text i S = calm-says (says-old-text {D = Reason} {E = Loaned} {b = 0} {p = c .at} c refl i S)
 
   calm-reserved : (n : ℕ) (B : List ℕ) → calm? (reserved n B c) ≡ true
-  calm-reserved n B = calm-says (says-reserved {b = 0} {p = c .at} c refl n B)
+  calm-reserved n B = calm-says (says-reserved {D = Reason} {E = Loaned} {b = 0} {p = c .at} c refl n B (λ l. tt))
 
   calm-stored : (s : Span) (n b : ℕ) (B : List ℕ) → calm? (stored s n b B c) ≡ true
-  calm-stored s n b B = calm-says (says-stored {b = 0} {p = c .at} c refl s n b B)
+  calm-stored s n b B = calm-says (says-stored {D = Reason} {E = Loaned} {b = 0} {p = c .at} c refl s n b B)
 
   calm-judged : (valid : Bool) → calm? (judged valid c) ≡ true
-  calm-judged valid = calm-says (says-judged {b = 0} {p = c .at} c refl valid)
+  calm-judged valid = calm-says (says-judged {D = Reason} {E = Loaned} {b = 0} {p = c .at} c refl valid)
 
   calm-text-end : (s : Span) (valid : Bool) (S : List ℕ) → calm? (textEnd s valid S c) ≡ true
-  calm-text-end s valid S = calm-says (says-text-end {b = 0} {p = c .at} c refl s valid S)
+  calm-text-end s valid S = calm-says (says-text-end {D = Reason} {E = Loaned} {b = 0} {p = c .at} c refl s valid S (λ l. tt))
 
   calm-entered : (row : ℕ) (O : List ℕ) → calm? (entered row O c) ≡ true
-  calm-entered row O = calm-says (says-entered {b = 0} {p = c .at} c refl row O)
+  calm-entered row O = calm-says (says-entered {D = Reason} {E = Loaned} {b = 0} {p = c .at} c refl row O (λ l. tt))
 
   calm-old-trait : (i : ℕ) (U : List ℕ) → calm? (oldTrait i U c) ≡ true
-  calm-old-trait i U = calm-says (says-old-trait {b = 0} {p = c .at} c refl i U)
+  calm-old-trait i U = calm-says (says-old-trait {D = Reason} {E = Loaned} {b = 0} {p = c .at} c refl i U)
 
   calm-named : (s : Span) (N : List ℕ) → calm? (named s N c) ≡ true
-  calm-named s N = calm-says (says-named {b = 0} {p = c .at} c refl s N)
+  calm-named s N = calm-says (says-named {D = Reason} {E = Loaned} {b = 0} {p = c .at} c refl s N (λ l. tt))
 
   calm-trait-end : (t : Trait) (U : List ℕ) → calm? (traitEnd t U c) ≡ true
-  calm-trait-end t U = calm-says (says-trait-end {b = 0} {p = c .at} c refl t U)
+  calm-trait-end t U = calm-says (says-trait-end {D = Reason} {E = Loaned} {b = 0} {p = c .at} c refl t U (λ l. tt))
 
   calm-sealed : (i : ℕ) (N : List ℕ) → calm? (sealedKey i N c) ≡ true
-  calm-sealed i N = calm-says (says-sealed {b = 0} {p = c .at} c refl i N)
+  calm-sealed i N = calm-says (says-sealed {D = Reason} {E = Loaned} {b = 0} {p = c .at} c refl i N)
 
   calm-starred : (s : Span) (B : List ℕ) → calm? (starred s B c) ≡ true
-  calm-starred s B = calm-says (says-starred {b = 0} {p = c .at} c refl s B)
+  calm-starred s B = calm-says (says-starred {D = Reason} {E = Loaned} {b = 0} {p = c .at} c refl s B)
 
 calm-use : (u : Use) (s : Span) (c : Cursor) (m : Memory) → calm? (reservedFor u s m c) ≡ true
-calm-use u s c m = calm-says (says-use {b = 0} {p = c .at} [] u s c m refl)
+calm-use u s c m = calm-says (says-use {D = Reason} {E = Loaned} {b = 0} {p = c .at} [] u s c m refl)
 
 calm-raw : (r : Raw) (s : Span) (n : ℕ) (c : Cursor) (m : Memory) → calm? (rawGrown r s n m c) ≡ true
-calm-raw r s n c m = calm-says (says-raw {b = 0} {p = c .at} r s n c m refl)
+calm-raw r s n c m = calm-says (says-raw {D = Reason} {E = Loaned} {b = 0} {p = c .at} r s n c m refl)
 
 ruleset calm = (
   calm-lift,
@@ -301,6 +311,7 @@ ruleset calm = (
   calm-vector,
   calm-flagged,
   calm-counted,
+  calm-key-end,
   calm-referred,
   calm-marker,
   calm-old-text,
@@ -350,8 +361,13 @@ task-of (keysOf row left done) = refl
 task-of (valuesOf row left done) = refl
 task-of strange = refl
 
-none-done : messageLimit - 0 ≡ messageLimit
-none-done = omega arith
+-- a name's key shows as it is
+sealed-shown : (i : ℕ) (m : Memory) (c : Cursor) (bs : List ℕ) (k : Cont Key)
+    → andThen (by (looking (λ m. sealedKey i (m .names))) m c bs) (λ key. k (shown key)) ≡ andThen (by (looking (λ m. sealedKey i (m .names))) m c bs) k
+unfolding sealedKey shown
+sealed-shown i m c bs k =
+    on-bool (ltb (length (m .names) / spanWidth) (c .names)) (λ e. rw e)
+    (λ e. rw e (on-bool (leb (c .names) i) (λ e. rw e) (λ e. rw e (on-bool (spanUsed c (spanAt (m .names) i)) (λ e. rw e) (λ e. rw e)))))
 
 module _ (ts : List Frame) where
   -- a string is next
@@ -360,31 +376,28 @@ module _ (ts : List Frame) where
   unfolding sem left afterWord text
   sem-use u c m bs = simp flat
 
-  -- the next key, if there are not too many before it
+  -- the next key
   sem-next : (p : Pairing) (c : Cursor) (m : Memory) (bs : List ℕ)
-      → sem (nextKey (doneOf p) p ts c m) bs ≡ andThen (pairing (inner ts) p m c bs) (rest ts)
-  unfolding pairing pairs afterUse afterKey reservedFor
-  sem-next p c m bs = on-bool (leb messageLimit (doneOf p))
-      (λ e. let z : messageLimit - doneOf p ≡ 0 = omega (arith, leb-true) in rw (e, z) (sem-over _ bs))
-      (λ e. let z : messageLimit - doneOf p ≡ suc (messageLimit - suc (doneOf p)) = omega (arith, leb-false) in
-      rw (e, z) (simp (sem-use, flat)))
+      → sem (wait (atString (forKey p)) ts c m) bs ≡ andThen (pairing (inner ts) p m c bs) (rest ts)
+  unfolding pairing afterUse afterKey reservedFor
+  sem-next p c m bs = rw (value-pairs (openLimit - suc (length ts)) (rowOf p) (colOf p) (doneOf p) m c bs) (simp (sem-use, flat))
 
   -- a value of a task is next
   sem-child : (key : Key) (t : Task) (c : Cursor) (m : Memory) (bs : List ℕ) → sem (wait (atMarker key) (frameOf t ∷ ts) c m) bs
-      ≡ andThen (inner ts key m c bs) (λ x m c bs. andThen (counts t m c bs) (λ t m c bs. andThen (task (inner ts) t m c bs) (rest ts)))
+      ≡ andThen (inner ts (shown key) m c bs) (λ x m c bs. andThen (counts t m c bs) (λ t m c bs. andThen (task (inner ts) t m c bs) (rest ts)))
   unfolding sem left rest
   sem-child key t c m bs = simp (sem, rest, task-of)
 
   module _ (k : Cursor → Memory → State) (h : (c : Cursor) (m : Memory) (bs : List ℕ) → sem (k c m) bs ≡ rest ts tt m c bs) where
     sem-go : (t : Task) (c : Cursor) (m : Memory) (bs : List ℕ) → sem (go k ts t c m) bs ≡ andThen (task (inner ts) t m c bs) (rest ts)
-    unfolding go task entries dynamicsOf counts pairing
-    sem-go (pairsOf (assoc row n done)) c m bs = sem-next (assoc row n done) c m bs
-    sem-go (pairsOf (dynamics row done)) c m bs = sem-next (dynamics row done) c m bs
+    unfolding go task entries couple dynamicsOf counts pairing shown
+    sem-go (pairsOf p) c m bs = sem-next p c m bs
     sem-go (itemsOf i row zero done) c m bs = simp (go, sem-on, calm, h)
     sem-go (itemsOf i row (suc n) done) c m bs = simp (go, sem-child, flat)
     sem-go (membersOf row zero done first zero) c m bs = simp (go, sem-on, calm, h)
-    sem-go (membersOf row zero done first (suc y)) c m bs = sem-next (dynamics row 0) c m bs ∙ rw none-done
-    sem-go (membersOf row (suc n) done first y) c m bs = simp (go, sem-on, calm, sem-child, flat)
+    sem-go (membersOf row zero done first (suc y)) c m bs = sem-next (dynamics row 0) c m bs
+    sem-go (membersOf row (suc n) done first y) c m bs =
+        simp (go, sem-on, calm, sem-child, flat) (sealed-shown (first + done) m c bs _)
     sem-go (keysOf row zero done) c m bs = simp (sem-on, calm, h)
     sem-go (keysOf row (suc n) done) c m bs = simp (go, sem-child, flat)
     sem-go (valuesOf row n done) c m bs = simp (go, sem-child, flat)
@@ -398,7 +411,7 @@ sem-entry (pairsOf (assoc row n done)) c m f bs = simp (sem-on, calm, flat)
 sem-entry (pairsOf (dynamics row done)) c m f bs = simp (sem-on, calm, flat)
 sem-entry (itemsOf i row n done) c m f bs = simp (sem-on, calm, flat)
 sem-entry (membersOf row n done first y) c m f bs = simp (sem-on, calm, flat)
-sem-entry (keysOf row n done) c m f bs = refl
+sem-entry (keysOf row n done) c m f bs = simp (sem-on, calm, flat)
 sem-entry (valuesOf row n done) c m f bs = simp (sem-on, calm, flat)
 sem-entry strange c m f bs = sem-over _ bs
 
@@ -428,7 +441,7 @@ module _ (ts : List Frame) where
 
   sem-keyed : (p : Pairing) (s : Span) (n : ℕ) (c : Cursor) (m : Memory) (bs : List ℕ)
       → sem (keyed ts p s n c m) bs ≡ andThen (afterKey (inner ts) p s n m c bs) (rest ts)
-  unfolding keyed afterKey pair task pairing counts
+  unfolding keyed afterKey pair task pairing counts shown
   sem-keyed (assoc row n done) s zero c m bs = sem-onward (itemsOf dense row n 0) c m bs
   sem-keyed (dynamics row done) s zero c m bs = simp (keyed, sem-on, calm, sem-pop)
   sem-keyed (assoc row n done) s (suc l) c m bs = simp (keyed, sem-child, flat)
@@ -487,7 +500,7 @@ module _ (ts : List Frame) where
   unfolding opened newOf pairing left afterText afterNumber afterFlag afterUse rawGrown
   sem-opened row xml n c m bs = simp (opened, sem-room, sem-texting, flat)
   sem-opened row date n c m bs = simp (opened, sem-wait, flat)
-  sem-opened row array n c m bs = sem-next ts (assoc row n 0) c m bs ∙ rw none-done (simp flat)
+  sem-opened row array n c m bs = sem-next ts (assoc row n 0) c m bs ∙ simp flat
   sem-opened row bytes n c m bs = simp (opened, sem-room, sem-filling, flat)
   sem-opened row (raw w) n c m bs = simp (opened, sem-room, sem-wait, flat)
   sem-opened row objects n c m bs = simp (opened, sem-wait, flat)
@@ -583,9 +596,9 @@ pred-suc n = omega arith
 
 module _ (ts : List Frame) (c : Cursor) (m : Memory) (bs : List ℕ) where
   sem-marker : (key : Key) (d : ℕ) → openLimit - length ts ≡ d
-      → andThen (value d key m c bs) (rest ts) ≡ andThen (byte m c bs) (λ b m c bs. sem (act (atMarker key) b ts c m) bs)
+      → andThen (value d (shown key) m c bs) (rest ts) ≡ andThen (byte m c bs) (λ b m c bs. sem (act (atMarker key) b ts c m) bs)
   unfolding value act
-  sem-marker key zero e = rw e (simp (act, sem-on, calm, sem-begun, flat) (same (byte m c bs) _ _ (λ b m c bs. shut key b m c _ _ bs)))
+  sem-marker key zero e = rw e (simp (act, sem-on, calm, sem-begun, flat) (same (byte m c bs) _ _ (λ b m c bs. shut (shown key) b m c _ _ bs)))
   sem-marker key (suc d) e = let z : openLimit - suc (length ts) ≡ d = omega arith in rw e (simp (act, sem-on, calm, sem-begun, flat, z))
 
   -- what a mode has to read is a byte, and then what the byte makes of it
@@ -641,7 +654,7 @@ sem-given (ok x m c bs) = refl
 sem-given (bad n told place m) = refl
 
 begin-sem : (m : Memory) (bs : List ℕ) → faultOf m ≡ 0 → sem (begin m) bs ≡ given (value openLimit noKey (zeroed m) fresh bs)
-unfolding begin sem left
+unfolding begin sem left shown
 begin-sem m bs e = let z : openLimit - 0 ≡ openLimit = omega arith in rw (e, z) (sem-given (value openLimit noKey (zeroed m) fresh bs))
 
 waits-given : (v : Result Unit) (at : ℕ) (k : Memory) → given v ≡ bad refusals.unexpectedEnd 0 at k → v ≡ bad refusals.unexpectedEnd 0 at k

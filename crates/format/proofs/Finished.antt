@@ -2,7 +2,7 @@
 use mathlib.Core.Path.{_≡_, refl, sym, ap, _∙_}
 use mathlib.Core.Bool.{true}
 use mathlib.Core.List.{List}
-use Prim.Native.Nat.{ℕ, zero, suc, _*_, _^_, _<_, _≤_}
+use Prim.Native.Nat.{ℕ, zero, suc, _*_, _/_, _^_, _<_, _≤_}
 use native.Mathlib.Omega.{arith}
 use lib.ListN.{length, take}
 use lib.Seq.{length-take-le, getD-take}
@@ -18,12 +18,24 @@ use Rattle.format.proofs.Lists.{Kept}
 use Rattle.format.proofs.Ground.{land, Ext, ext-kept, landOf}
 use Rattle.format.proofs.Feeding.{feeding}
 use Rattle.format.proofs.Lands.{bare, sound-ext}
-use Rattle.format.proofs.Meaning.{usedRows, used-many}
 use Rattle.format.proofs.RowTests.{Passes, Table, Writes, well-formed, all-write, passing, fine-without}
 use Rattle.format.proofs.Stages.{Ok, Val}
 use Rattle.format.proofs.Posts.{Post, stops, gets}
 use Rattle.format.proofs.ValueRows.{value-reads}
 use Rattle.rows.specs.Memory.{rowWidth, colEnd}
+
+-- the part of the rows and of the store that a finished reading used
+abbrev pub usedRows : Cursor → Memory → List ℕ
+usedRows c m = take (c .rows * rowWidth) (m .rows)
+
+abbrev pub usedStore : Cursor → Memory → List ℕ
+usedStore c m = take (c .store) (m .store)
+
+pub used-many : (c : Cursor) (m : Memory) → c .rows * rowWidth ≤ length (m .rows) → rowsIn (usedRows c m) ≡ c .rows
+used-many c m h =
+    let e : length (usedRows c m) ≡ c .rows * rowWidth = length-take-le (c .rows * rowWidth) (m .rows) h in
+    let q : rowsIn (usedRows c m) ≡ c .rows * rowWidth / rowWidth = ap (λ z. z / rowWidth) e in
+    omega arith
 
 -- nothing is used yet
 ok-fresh : (m : Memory) → Ok m fresh
@@ -38,7 +50,7 @@ ok-fresh m =
     }
 
 -- what the reading of the whole message leaves
-finished-val : {Q : Memory → Cursor → Type 0} (x : Result Unit) (c : Cursor) (m : Memory) → Post (λ u. Q) x → ended x ≡ finished c m → Q m c
+pub finished-val : {Q : Memory → Cursor → Type 0} (x : Result Unit) (c : Cursor) (m : Memory) → Post (λ u. Q) x → ended x ≡ finished c m → Q m c
 unfolding ended
 finished-val x c m stops e = clash cc
 finished-val {Q} x c m (gets {m = m₁} {c = c₁} h) e = let p : m₁ ≡ m = cc in let q : c₁ ≡ c = cc in rw (p, q) at h
@@ -48,18 +60,19 @@ not-faulty : (n : ℕ) (m : Memory) (x : Ended) (c : Cursor) (m′ : Memory) →
 not-faulty zero m x c m′ e = e
 not-faulty (suc n) m x c m′ e = cc
 
+-- what a reading leaves from fresh on
+pub fresh-reads : (m : Memory) (bs : List ℕ) → Post (λ u. Val keyless m fresh) (value openLimit noKey m fresh bs)
+fresh-reads m bs = value-reads openLimit keyless noKey m fresh bs (ok-fresh m) bare
+
 pub reading-val : (m : Memory) (bs : List ℕ) (c : Cursor) (m′ : Memory) → reading m bs ≡ finished c m′ → Val keyless (zeroed m) fresh m′ c
 unfolding reading
 reading-val m bs c m′ e =
-    finished-val (value openLimit noKey (zeroed m) fresh bs) c m′ (value-reads openLimit keyless noKey (zeroed m) fresh bs (ok-fresh (zeroed m)) bare)
-    (not-faulty (faultOf m) m _ c m′ e)
+    finished-val (value openLimit noKey (zeroed m) fresh bs) c m′ (fresh-reads (zeroed m) bs) (not-faulty (faultOf m) m _ c m′ e)
 
 -- with a store that is the same as far as it was used
-pub finished-table : (m : Memory) (bs : List ℕ) (c : Cursor) (m′ : Memory) → reading m bs ≡ finished c m′ → (B : List ℕ) → c .store ≤ length B
-    → Kept (c .store) (m′ .store) B
+pub val-table : {m : Memory} {c : Cursor} {m′ : Memory} → Val keyless m fresh m′ c → (B : List ℕ) → c .store ≤ length B → Kept (c .store) (m′ .store) B
     → Table (usedRows c m′) B (c .store)
-finished-table m bs c m′ e B l k =
-    let v = reading-val m bs c m′ e in
+val-table {c = c} {m′ = m′} v B l k =
     let a = v .ok .rowsIn in
     let s = v .ok .storeIn in
     let w = v .newer in
@@ -78,12 +91,13 @@ finished-table m bs c m′ e B l k =
 module _ (m : Memory) (bs : List ℕ) (c : Cursor) (m′ : Memory) (e : reading m bs ≡ finished c m′) where
   -- the store as it was lent, and the part of it that was used
   pub whole-table : Table (usedRows c m′) (m′ .store) (c .store)
-  whole-table = finished-table m bs c m′ e (m′ .store) ((reading-val m bs c m′ e) .ok .storeIn) (λ i h. refl)
+  whole-table = let v = reading-val m bs c m′ e in val-table v (m′ .store) (v .ok .storeIn) (λ i h. refl)
 
   pub used-table : Table (usedRows c m′) (take (c .store) (m′ .store)) (c .store)
   used-table =
-      let s = (reading-val m bs c m′ e) .ok .storeIn in
-      finished-table m bs c m′ e (take (c .store) (m′ .store)) (let n = length-take-le (c .store) (m′ .store) s in omega arith)
+      let v = reading-val m bs c m′ e in
+      let s = v .ok .storeIn in
+      val-table v (take (c .store) (m′ .store)) (let n = length-take-le (c .store) (m′ .store) s in omega arith)
       (λ i h. getD-take (c .store) (m′ .store) i 0 h)
 
   -- no row is malformed

@@ -12,7 +12,7 @@ use lib.ListN.{length, length-replicate}
 use Rattle.rows.specs.declared.Span.{Span}
 use Rattle.rows.specs.declared.Key.{Key}
 use Rattle.rows.specs.declared.Trait.{Trait}
-use Rattle.rows.specs.Memory.{Memory, messageLimit, openLimit, colCount, colCount2, noKey, keyOf, fresh, zeros, zeroed, faultOf}
+use Rattle.rows.specs.Memory.{Memory, openLimit, colCount, colCount2, noKey, keyOf, fresh, zeros, zeroed, faultOf}
 use Rattle.wire.specs.U29 as w
 use Rattle.wire.specs.Sign.{bitsAt}
 use Rattle.wire.specs.Big.{bytesOf}
@@ -21,8 +21,8 @@ use Rattle.wire.proofs.Big.{bytes-length}
 use Rattle.format.specs.Decide as k
 use Rattle.format.specs.Decide.{Body, Width, widthOf, kindOf, looking, sealedKey}
 use Rattle.format.specs.Reading as r
-use Rattle.format.specs.Reading.{_>>_, _>>=_, Reader, by, ret, u29, number, text, Values, entries, pairs, names, dynamics, members, inlined}
-use Rattle.format.specs.Reading.{objectOf, newOf, sizedOf, marked, value, Result, ok, bad, Ended, finished, refused, ended, reading}
+use Rattle.format.specs.Reading.{_>>=_, Reader, by, ret, u29, number, text, Values, entries, pairsBy, pairs, couple, names, dynamics, members}
+use Rattle.format.specs.Reading.{inlined, objectOf, newOf, sizedOf, marked, value, Result, ok, bad, Ended, finished, refused, ended, reading}
 use Rattle.format.specs.Standard.{Plain, undefined, null, boolean, integer, double, string, xmlDocument, xml, byteArray, date}
 use Rattle.format.specs.Standard.{intVector, uintVector, doubleVector}
 use Rattle.format.specs.Standard.{Tree, plain, array, object, objectVector, dictionary, Trees, nil, cons, Pairs, noPairs, pair, Entries}
@@ -36,11 +36,12 @@ use Rattle.format.proofs.Writable.{Writable, WritableTrees, WritablePai
 use Rattle.format.specs.Holds.{Room, room, _and_, nothing, aRow, anObject, ofText, ofClass, ofPlain, ofTree, ofTrees, ofPairs, ofSealed, ofEntries}
 use Rattle.format.specs.Holds.{canHold}
 use Rattle.format.proofs.Size.{holds, held-below}
-use Rattle.format.proofs.Words.{size-new, dynamicOf, trait-shape, trait-below}
-use Rattle.format.proofs.Holds.{Fits, Within, limit, Any, Good, Goes, goes-ret, goes-bind, goes-seq, goes-free, goes-end}
+use Rattle.format.proofs.Words.{dynamicOf, trait-below}
+use Rattle.format.proofs.Own.{size-read, trait-read}
+use Rattle.format.proofs.Holds.{Fits, Same, limit, Any, Good, Goes, goes-ret, goes-bind, goes-seq, goes-free, goes-end}
 use Rattle.format.proofs.Holds.{goes-last, goes-byte, goes-lost, goes-any, goes-cursor}
 use Rattle.format.proofs.Enough.{goes-closed, goes-numbered, goes-integer, goes-date, goes-bodied, goes-class, goes-type, goes-flagged}
-use Rattle.format.proofs.Enough.{goes-counted, goes-grown, goes-marker, goes-judged, goes-entered, goes-named, goes-trait}
+use Rattle.format.proofs.Enough.{goes-counted, goes-key-end, goes-grown, goes-marker, goes-judged, goes-entered, goes-named, goes-trait}
 use Rattle.format.proofs.Enough.{goes-sealed-key, goes-starred}
 use Rattle.format.proofs.Taken.{goes-word, goes-number, goes-filled, goes-chars-of, goes-room, goes-text}
 
@@ -53,7 +54,7 @@ text-goes t h = goes-text r.plain (λ x. goes-ret tt) t h
 
 -- ---- values that hold no others
 
-goes-marked : {bs : List ℕ} {y : Room} (key : Key) (left b : ℕ) (x : Room) → Within (aRow and x) y
+goes-marked : {bs : List ℕ} {y : Room} (key : Key) (left b : ℕ) (x : Room) → Same (aRow and x) y
     → ((row : ℕ) → Goes Any (marked (value left) row (kindOf b)) bs x) → Goes Any (value (suc left) key) (b ∷ bs) y
 unfolding value
 goes-marked key left b x i h = goes-free _ (goes-byte b) (λ y p. rw p (goes-seq aRow x i _ (goes-marker key left b) (λ row q. h row)))
@@ -63,7 +64,7 @@ module _ (v : Values) (row : ℕ) where
       → Goes Any (marked v row (k.sized body)) (sizeBytes n ++ bs) (room 0 0 0 1 0 0 and x)
   unfolding marked sizedOf
   goes-sized body n l h =
-      goes-free _ (goes-word (n * 2 + 1) (omega arith)) (λ y p. rw (p, size-new n) (goes-bind _ (goes-entered row) (λ a q. h)))
+      goes-free _ (goes-word (n * 2 + 1) (omega arith)) (λ y p. rw (p, size-read n) (goes-bind _ (goes-entered row) (λ a q. h)))
 
   goes-xml : (t : List ℕ) → Goes Any (newOf v row k.xml (length t)) t (room 0 (length t) 0 0 0 0)
   unfolding newOf
@@ -91,7 +92,7 @@ module _ (v : Values) (row : ℕ) where
   goes-eight n = goes-number 7 0 (bytesOf 8 n) (bytes-length 8 n)
 
 -- an object's marker and size word, and what follows them
-object-goes : {bs : List ℕ} {y : Room} (key : Key) (left b : ℕ) (body : Body) (n : ℕ) (x : Room) → Within (anObject 0 and x) y → n < 2 ^ 28
+object-goes : {bs : List ℕ} {y : Room} (key : Key) (left b : ℕ) (body : Body) (n : ℕ) (x : Room) → Same (anObject 0 and x) y → n < 2 ^ 28
     → kindOf b ≡ k.sized body → ((row : ℕ) → Goes Any (newOf (value left) row body n) bs x)
     → Goes Any (value (suc left) key) (b ∷ (sizeBytes n ++ bs)) y
 object-goes key left b body n x i l e h =
@@ -140,14 +141,14 @@ plain-goes (doubleVector fixed t) h left key =
 -- ---- entries of a value
 
 module _ (row : ℕ) where
-  one-entry : {xs ys : List ℕ} (one : ℕ → Reader Unit) (col n done : ℕ) (a b y : Room) → Within (a and b) y → Goes Any (one done) xs a
+  one-entry : {xs ys : List ℕ} (one : ℕ → Reader Unit) (col n done : ℕ) (a b y : Room) → Same (a and b) y → Goes Any (one done) xs a
       → Goes Any (entries one row col n (suc done)) ys b → Goes Any (entries one row col (suc n) done) (xs ++ ys) y
   unfolding entries
   one-entry one col n done a b y i h l = goes-seq a b i _ (goes-last _ h (λ x p. goes-counted row col done)) (λ x p. l)
 
   module _ (v : Values) (col : ℕ) where
-    no-room : {bs : List ℕ} {y : Room} (done : ℕ) → Goes Any (pairs v row col zero done) bs y
-    unfolding pairs
+    no-room : {bs : List ℕ} {y : Room} (done : ℕ) → Goes Any (pairsBy v row col zero done) bs y
+    unfolding pairsBy
     no-room done = goes-lost
 
     -- a pair by the size of its key
@@ -155,23 +156,29 @@ module _ (row : ℕ) where
         → Goes Any (r.pair v row col done more x (x .size)) bs y
     by-size {bs} {y} done more x n e h = subst (λ (m : ℕ). Goes Any (r.pair v row col done more x m) bs y) (sym e) h
 
-    no-pair : (most done : ℕ) → Goes Any (pairs v row col (suc most) done) (0x01 ∷ []) nothing
-    unfolding pairs r.pair w.u29 w.moreOf w.groups ofText
-    no-pair most done = goes-last _ (text-goes [] (lit< tt)) (λ x p. by-size done (pairs v row col most (suc done)) x 0 p (goes-ret tt))
+    no-pair : (most done : ℕ) → Goes Any (pairsBy v row col (suc most) done) (0x01 ∷ []) nothing
+    unfolding pairsBy r.pair w.u29 w.moreOf w.groups ofText
+    no-pair most done = goes-last _ (text-goes [] (lit< tt)) (λ x p. by-size done (pairsBy v row col most (suc done)) x 0 p (goes-ret tt))
 
-    filled-pair : {xs ys : List ℕ} (done : ℕ) (more : Reader Unit) (x : Span) (n : ℕ) (a b y : Room) → Within (a and b) y → 0 < n
+    filled-pair : {xs ys : List ℕ} (done : ℕ) (more : Reader Unit) (x : Span) (n : ℕ) (a b y : Room) → Same (a and b) y → 0 < n
         → ((key : Key) → Goes Any (v key) xs a) → Goes Any more ys b → Goes Any (r.pair v row col done more x n) (xs ++ ys) y
     unfolding r.pair
     filled-pair done more x zero a b y i l h g = absurd (omega arith)
     filled-pair done more x (suc n) a b y i l h g = goes-seq a b i _ (goes-last _ (h (keyOf x)) (λ z p. goes-counted row col done)) (λ z p. g)
 
     one-pair : {xs ys : List ℕ} (most done : ℕ) (t : List ℕ) (a b : Room) → IsKey t → ((key : Key) → Goes Any (v key) xs a)
-        → Goes Any (pairs v row col most (suc done)) ys b → Goes Any (pairs v row col (suc most) done) (textBytes t ++ (xs ++ ys)) (ofText t and a and b)
-    unfolding pairs
+        → Goes Any (pairsBy v row col most (suc done)) ys b → Goes Any (pairsBy v row col (suc most) done) (textBytes t ++ (xs ++ ys)) (ofText t and a and b)
+    unfolding pairsBy
     one-pair most done t a b k h g =
         goes-seq (ofText t) (a and b) (omega arith) _ (text-goes t (k .text .short))
-        (λ x p. by-size done (pairs v row col most (suc done)) x (length t) p
-        (filled-pair done (pairs v row col most (suc done)) x (length t) a b (a and b) (omega arith) (k .filled) h g))
+        (λ x p. by-size done (pairsBy v row col most (suc done)) x (length t) p
+        (filled-pair done (pairsBy v row col most (suc done)) x (length t) a b (a and b) (omega arith) (k .filled) h g))
+
+-- a key of a dictionary and its value
+goes-couple : {xs ys : List ℕ} {a b : Room} (v : Values) (row done : ℕ) → Goes Any (v noKey) xs a → Goes Any (v noKey) ys b
+    → Goes Any (couple v row done) (xs ++ ys) (a and b)
+unfolding couple
+goes-couple v row done h g = goes-bind _ (goes-last _ h (λ x p. goes-key-end row done)) (λ x p. g)
 
 -- what a trait's names take, and what the values of sealed members take
 abbrev namesRoom : Pairs → Room
@@ -182,7 +189,7 @@ abbrev valuesRoom : Pairs → Room
 valuesRoom noPairs = nothing
 valuesRoom (pair x t ps) = ofTree t and valuesRoom ps
 
-members-need : (ps : Pairs) → Within (namesRoom ps and valuesRoom ps) (ofSealed ps)
+members-need : (ps : Pairs) → Same (namesRoom ps and valuesRoom ps) (ofSealed ps)
 unfolding ofSealed
 members-need noPairs = omega arith
 members-need (pair x t ps) = let h = members-need ps in omega arith
@@ -199,7 +206,7 @@ names-go (pair x t ps) h =
     (λ s p. goes-seq (room 0 0 0 0 0 1) (namesRoom ps) (omega arith) _ (goes-named s) (λ a q. names-go ps (h .2)))
 
 -- dynamic members, if there are any
-dynamics-go : (v : Values) (row : ℕ) (ys : Pairs) → Goes Any (pairs v row colCount2 messageLimit 0) (encodePairs ys ++ 0x01 ∷ []) (ofPairs ys)
+dynamics-go : (v : Values) (row : ℕ) (ys : Pairs) → Goes Any (pairs v row colCount2 0) (encodePairs ys ++ 0x01 ∷ []) (ofPairs ys)
     → Goes Any (dynamics v row (dynamicOf ys)) (encodeDynamic ys) (ofPairs ys)
 unfolding dynamics encodePairs encodeDynamic ofPairs
 dynamics-go v row noPairs h = goes-ret tt
@@ -215,7 +222,7 @@ class-goes p default h (some t) g = goes-any (text-goes t (p t g .short))
 
 module _ (left : ℕ) (key : Key) where
   array-goes : (xs : Pairs) (ts : Trees) → count ts < 2 ^ 28
-      → ((row : ℕ) → Goes Any (pairs (value left) row colCount messageLimit 0) (encodePairs xs ++ 0x01 ∷ []) (ofPairs xs))
+      → ((row : ℕ) → Goes Any (pairs (value left) row colCount 0) (encodePairs xs ++ 0x01 ∷ []) (ofPairs xs))
       → ((row : ℕ) → Goes Any (entries (λ done. value left noKey) row colCount2 (count ts) 0) (encodeTrees ts) (ofTrees ts))
       → Goes Any (value (suc left) key) (encode (array xs ts)) (ofTree (array xs ts))
   unfolding encode arrayHead kindOf newOf ofTree
@@ -236,7 +243,7 @@ module _ (left : ℕ) (key : Key) where
       (λ x y. goes-free _ (goes-starred x) (λ star a. goes-last _ (goes-free _ (goes-type row star x) (λ c d. q row)) (λ c d. goes-closed row))))))
 
   dictionary-goes : (weak : Bool) (es : Entries) → countEntries es < 2 ^ 28
-      → ((row : ℕ) → Goes Any (entries (λ done. value left noKey >> value left noKey) row colCount (countEntries es) 0)
+      → ((row : ℕ) → Goes Any (entries (couple (value left) row) row colCount (countEntries es) 0)
       (encodeEntries es) (ofEntries es))
       → Goes Any (value (suc left) key) (encode (dictionary weak es)) (ofTree (dictionary weak es))
   unfolding encode dictionaryHead kindOf newOf ofTree
@@ -252,7 +259,7 @@ module _ (left : ℕ) (key : Key) where
 
   inlined-goes : (row : ℕ) (xs ys : Pairs) (t : Trait) → WritableMembers xs → t .count ≡ countPairs xs → t .dynamic ≡ dynamicOf ys
       → Goes Any (entries (sealedOf t) row colCount (countPairs xs) 0) (encodeValues xs) (valuesRoom xs)
-      → Goes Any (pairs (value left) row colCount2 messageLimit 0) (encodePairs ys ++ 0x01 ∷ []) (ofPairs ys)
+      → Goes Any (pairs (value left) row colCount2 0) (encodePairs ys ++ 0x01 ∷ []) (ofPairs ys)
       → Goes Any (inlined (value left) row t) (nameBytes xs ++ (encodeValues xs ++ encodeDynamic ys)) (inlinedRoom xs ys)
   unfolding inlined members
   inlined-goes row xs ys t h n d p q =
@@ -270,14 +277,14 @@ module _ (left : ℕ) (key : Key) where
 
   object-of-goes : (class : Option (List ℕ)) (xs ys : Pairs) → IfGiven IsKey class → WritableMembers xs → countPairs xs < 2 ^ 25
       → ((row : ℕ) (t : Trait) → Goes Any (entries (sealedOf t) row colCount (countPairs xs) 0) (encodeValues xs) (valuesRoom xs))
-      → ((row : ℕ) → Goes Any (pairs (value left) row colCount2 messageLimit 0) (encodePairs ys ++ 0x01 ∷ []) (ofPairs ys))
+      → ((row : ℕ) → Goes Any (pairs (value left) row colCount2 0) (encodePairs ys ++ 0x01 ∷ []) (ofPairs ys))
       → Goes Any (value (suc left) key) (encode (object class xs ys)) (ofTree (object class xs ys))
   unfolding encode objectHead kindOf marked objectOf ofTree
   object-of-goes class xs ys g h l p q =
       let m = members-need xs in
       regroup (0x0A ∷ (w.u29 (traitWord xs ys) ++ (classBytes [] class ++ (nameBytes xs ++ (encodeValues xs ++ encodeDynamic ys))))) (simp append-assoc)
       (goes-marked key left 0x0A ((room 0 0 0 1 0 0 and ofClass [] class) and inlinedRoom xs ys) (omega arith) (λ row. goes-free _ (goes-word (traitWord xs ys) (trait-below xs ys l))
-      (λ x e. rw (e, trait-shape xs ys)
+      (λ x e. rw (e, trait-read xs ys)
       (goes-bind _ (goes-bind _ (goes-entered row) (λ a z. class-goes (λ t h. h .text) [] (lit< tt) class g))
       (λ s z. goes-cursor (λ c. inlined (value left) row (k.traitOf s (countPairs xs) (dynamicOf ys) c))
       (λ c. inlined-goes row xs ys (k.traitOf s (countPairs xs) (dynamicOf ys) c) h refl refl
@@ -285,21 +292,32 @@ module _ (left : ℕ) (key : Key) where
 
 -- ---- every tree
 
+-- pairs, if they go with any fuel
+pairs-go : (v : Values) (row col : ℕ) (bs : List ℕ) (y : Room) → ((most : ℕ) → Goes Any (pairsBy v row col most 0) bs y) → Goes Any (pairs v row col 0) bs y
+unfolding pairs
+pairs-go v row col bs y h =
+    record {
+      goes = λ m c rest f. h (suc (length (bs ++ rest))) .goes m c rest f;
+      exact = λ m c rest. h (suc (length (bs ++ rest))) .exact m c rest;
+    }
+
 mutual
   unfolding entries count countPairs countEntries encodeTrees encodePairs encodeValues encodeEntries encode ofTree ofTrees ofPairs ofEntries
       depth depthTrees depthPairs depthEntries
 
-  tree-goes : (t : Tree) → Writable t → (left : ℕ) → depth t ≤ left → (key : Key) → Goes Any (value left key) (encode t) (ofTree t)
+  pub tree-goes : (t : Tree) → Writable t → (left : ℕ) → depth t ≤ left → (key : Key) → Goes Any (value left key) (encode t) (ofTree t)
   tree-goes (plain p) h zero l key = absurd (omega arith)
   tree-goes (plain p) h (suc left) l key = plain-goes p h left key
   tree-goes (array xs ts) h zero l key = absurd (omega arith)
   tree-goes (array xs ts) h (suc left) l key =
-      array-goes left key xs ts (h .2) (λ row. pairs-go xs (h .0) left (omega arith) row colCount messageLimit 0)
+      array-goes left key xs ts (h .2) (λ row. pairs-go (value left) row colCount (encodePairs xs ++ 0x01 ∷ []) (ofPairs xs)
+      (λ most. pairs-by xs (h .0) left (omega arith) row colCount most 0))
       (λ row. trees-go ts (h .1) left (omega arith) row colCount2 0)
   tree-goes (object class xs ys) h zero l key = absurd (omega arith)
   tree-goes (object class xs ys) h (suc left) l key =
       object-of-goes left key class xs ys (h .0) (h .1) (h .3) (λ row t. members-go xs (h .1) left (omega arith) key row t 0)
-      (λ row. pairs-go ys (h .2) left (omega arith) row colCount2 messageLimit 0)
+      (λ row. pairs-go (value left) row colCount2 (encodePairs ys ++ 0x01 ∷ []) (ofPairs ys)
+      (λ most. pairs-by ys (h .2) left (omega arith) row colCount2 most 0))
   tree-goes (objectVector fixed class ts) h zero l key = absurd (omega arith)
   tree-goes (objectVector fixed class ts) h (suc left) l key =
       vector-goes left key fixed class ts (h .0) (h .2) (λ row. trees-go ts (h .1) left (omega arith) row colCount 0)
@@ -314,15 +332,15 @@ mutual
       one-entry row (λ done. value left noKey) col (count ts) done (ofTree t) (ofTrees ts) (ofTree t and ofTrees ts) (omega arith)
       (tree-goes t (h .0) left (omega arith) noKey) (trees-go ts (h .1) left (omega arith) row col (suc done))
 
-  pairs-go : (ps : Pairs) → WritablePairs ps → (left : ℕ) → depthPairs ps ≤ left → (row col most done : ℕ)
-      → Goes Any (pairs (value left) row col most done) (encodePairs ps ++ 0x01 ∷ []) (ofPairs ps)
-  pairs-go noPairs h left l row col zero done = no-room row (value left) col done
-  pairs-go noPairs h left l row col (suc most) done = no-pair row (value left) col most done
-  pairs-go (pair x t ps) h left l row col zero done = no-room row (value left) col done
-  pairs-go (pair x t ps) h left l row col (suc most) done =
+  pairs-by : (ps : Pairs) → WritablePairs ps → (left : ℕ) → depthPairs ps ≤ left → (row col most done : ℕ)
+      → Goes Any (pairsBy (value left) row col most done) (encodePairs ps ++ 0x01 ∷ []) (ofPairs ps)
+  pairs-by noPairs h left l row col zero done = no-room row (value left) col done
+  pairs-by noPairs h left l row col (suc most) done = no-pair row (value left) col most done
+  pairs-by (pair x t ps) h left l row col zero done = no-room row (value left) col done
+  pairs-by (pair x t ps) h left l row col (suc most) done =
       regroup (textBytes x ++ (encode t ++ (encodePairs ps ++ 0x01 ∷ []))) (simp append-assoc)
       (one-pair row (value left) col most done x (ofTree t) (ofPairs ps) (h .0) (λ key. tree-goes t (h .1) left (omega arith) key)
-      (pairs-go ps (h .2) left (omega arith) row col most (suc done)))
+      (pairs-by ps (h .2) left (omega arith) row col most (suc done)))
 
   members-go : (ps : Pairs) → WritableMembers ps → (left : ℕ) → depthPairs ps ≤ left → (key : Key) (row : ℕ) (t : Trait) (done : ℕ)
       → Goes Any (entries (sealedOf left key t) row colCount (countPairs ps) done) (encodeValues ps) (valuesRoom ps)
@@ -333,12 +351,12 @@ mutual
       (members-go ps (h .2) left (omega arith) key row t (suc done))
 
   entries-go : (es : Entries) → WritableEntries es → (left : ℕ) → depthEntries es ≤ left → (row col done : ℕ)
-      → Goes Any (entries (λ done. value left noKey >> value left noKey) row col (countEntries es) done) (encodeEntries es) (ofEntries es)
+      → Goes Any (entries (couple (value left) row) row col (countEntries es) done) (encodeEntries es) (ofEntries es)
   entries-go noEntries h left l row col done = goes-ret tt
   entries-go (entry a b es) h left l row col done =
-      one-entry row (λ done. value left noKey >> value left noKey) col (countEntries es) done (ofTree a and ofTree b) (ofEntries es)
+      one-entry row (couple (value left) row) col (countEntries es) done (ofTree a and ofTree b) (ofEntries es)
       (ofTree a and ofTree b and ofEntries es) (omega arith)
-      (goes-bind _ (tree-goes a (h .0) left (omega arith) noKey) (λ x p. tree-goes b (h .1) left (omega arith) noKey))
+      (goes-couple (value left) row done (tree-goes a (h .0) left (omega arith) noKey) (tree-goes b (h .1) left (omega arith) noKey))
       (entries-go es (h .2) left (omega arith) row col (suc done))
 
 -- ---- the whole reading

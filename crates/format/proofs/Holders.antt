@@ -3,21 +3,19 @@ use mathlib.Core.Path.{_≡_, refl, sym, ap, _∙_}
 use mathlib.Core.Bool.{Bool, true, false, cond, not}
 use mathlib.Core.List.{List, [], _∷_}
 use mathlib.Core.Option.{Option, none, some}
-use Prim.Native.Nat.{ℕ, zero, suc, _+_, _/_, _%_, _^_, _<_, _≤_}
+use Prim.Native.Nat.{ℕ, zero, suc, _+_, _<_, _≤_}
 use native.Mathlib.Omega.{arith}
-use native.Mathlib.Nat.{mod-lt}
 use borrow.Author.Tests.{le-ltb, le-leb, eq-eqb, ne-eqb}
-use lib.Dec.{eqb, lit≤, lit<}
+use lib.Dec.{eqb, lit≤}
 use lib.ListN.{length, getD, drop, set}
 use lib.Seq.{getD-take, getD-drop}
 use Rattle.rows.specs.declared.Cursor.{Cursor}
 use Rattle.rows.specs.declared.Span.{Span}
 use Rattle.rows.specs.declared.Key.{Key}
 use Rattle.rows.specs.declared.Trait.{Trait}
-use Rattle.rows.specs.Memory.{Memory, messageLimit, span, noSpan, noKey, put}
+use Rattle.rows.specs.Memory.{Memory, span, noSpan, noKey, put}
 use Rattle.wire.specs.declared.Shape.{Shape}
 use Rattle.wire.specs.declared.Shape.the-variants.{Object, Known, External, Inline}
-use Rattle.wire.specs.Word.{shapeOf}
 use Rattle.wire.proofs.Octets.{Bytes}
 use Rattle.format.specs.Decide.{onRows, looking, closed, classed, objectClass, vectorClass, fixed, weak, flagged, traitOf}
 use Rattle.format.specs.Decide.{starred, traitsTo, objectsTo}
@@ -36,26 +34,9 @@ use Rattle.format.proofs.Changes.{addTraits, setObject}
 use Rattle.format.proofs.Stage.{Val, Stage, stage-at, stage-put}
 use Rattle.format.proofs.Texts.{part-none, text-then, text-size}
 use Rattle.format.proofs.Naming.{lasting, held, nothing, keep-text, names-alike, known-then, enter-trait}
-use Rattle.format.proofs.Loops.{stage-used, trees-alike, entries-alike, sealed-alike, pairs-alike, dynamics-alike}
+use Rattle.format.proofs.Loops.{stage-used, begun, trees-alike, entries-alike, sealed-alike, pairs-alike, dynamics-alike}
 use Rattle.format.proofs.Ends.{NewAlike, opening, ends-object, enter-then, refer-alike}
 use Rattle.format.proofs.Plains.{fixed-flag}
-
--- the dynamic bit of an object's word is a mark
-abbrev pub Marked : Shape → Type 0
-Marked (Object i) = Unit {0}
-Marked (Known i) = Unit {0}
-Marked External = Unit {0}
-Marked (Inline n y) = y ≤ 1
-
-pub shape-marked : (w : ℕ) → Marked (shapeOf w)
-unfolding shapeOf
-shape-marked w = by-bits (eqb (w / 2 ^ 0 % 2) 0) (eqb (w / 2 ^ 1 % 2) 0) (eqb (w / 2 ^ 2 % 2) 0)
-  where
-    by-bits : (p q r : Bool) → Marked (cond p (Object (w / 2)) (cond q (Known (w / 2 ^ 2)) (cond r (Inline (w / 2 ^ 4) (w / 2 ^ 3 % 2)) External)))
-    by-bits true q r = tt
-    by-bits false true r = tt
-    by-bits false false true = let h = mod-lt (w / 2 ^ 3) {m = 2} (lit< tt) in omega arith
-    by-bits false false false = tt
 
 -- ---- classes
 
@@ -100,8 +81,8 @@ first-name B u N k zero (x ∷ xs) e h = absurd (omega arith)
 first-name B u N k (suc n) xs e h = rw (ne-eqb (suc n) 0 (λ e. omega arith)) (h, omega arith)
 
 -- an empty class is none
-class-given : (z : ℕ) (xs : List ℕ) → length xs ≡ z → cond (eqb (cond (eqb z 0) 0 1) 0) none (some xs) ≡ std.given xs
-unfolding std.given
+class-given : (z : ℕ) (xs : List ℕ) → length xs ≡ z → cond (eqb (cond (eqb z 0) 0 1) 0) none (some xs) ≡ std.classGiven xs
+unfolding std.classGiven
 class-given zero [] e = refl
 class-given zero (x ∷ xs) e = absurd (omega arith)
 class-given (suc z) [] e = absurd (omega arith)
@@ -114,12 +95,11 @@ module _ (whole : List ℕ) (octets : Bytes whole) (value : Values) (tree : Std 
       → c .rows ≡ suc (c₀ .rows) → c₀ .at < c .at → low ≤ c .at → Left whole (c .at) bs → NewAlike whole value tree f k m₀ c₀ 9 dec.array n m c s bs
   unfolding our.newOf std.newOf std.shut
   array-alike n m c s bs x e a b l =
-      rw (flat, flat) (then _ _ (pairs-alike whole octets value tree low ih m₀ c₀ messageLimit f (opening 9 k) 9 0 m c s bs x (omega arith)
-      (omega arith) b (omega arith) (omega arith) l)
+      rw (flat, flat) (then _ _ (pairs-alike whole octets value tree low ih m₀ c₀ f (opening 9 k) 9 m c s bs x (omega arith) b (omega arith) l)
       (λ v m₁ c₁ ps s₁ bs l r.
       let u = r .up in
       rw flat (then _ _ (trees-alike whole octets value tree low ih m₀ c₀ n (set (opening 9 k) 9 (0 + countPairs ps)) 10 0 m₁ c₁ s₁ bs (r .stage)
-      (omega arith) (omega arith) (omega arith) l)
+      (omega arith) (begun (r .stage)) (omega arith) l)
       (λ v m₂ c₂ ts s₂ bs l r₂.
       let u₂ = r₂ .up in
       ends-object bs k (array ps ts) (r₂ .stage) refl refl (omega arith) (refl, omega arith, omega arith) (omega arith)
@@ -133,7 +113,7 @@ module _ (whole : List ℕ) (octets : Bytes whole) (value : Values) (tree : Std 
       let x₁ = stage-at x (suc (c .at)) (omega arith) i in
       let x₂ = stage-put x₁ 7 (weak g) (omega arith) in
       rw (flat, flat, stage-used x₁) (then _ _ (entries-alike whole octets value tree low ih m₀ c₀ n (set (opening 17 k) 7 (weak g)) 9 0 _
-      (taken c) s bs x₂ (omega arith) (omega arith) (omega arith) l)
+      (taken c) s bs x₂ (omega arith) (begun x₂) (omega arith) l)
       (λ v m₂ c₂ es s₂ bs l r.
       let u = r .up in
       ends-object bs k (dictionary (eqb g 1) es) (r .stage) refl refl (omega arith) (refl, weak-flag g, omega arith) (omega arith)
@@ -155,7 +135,7 @@ module _ (whole : List ℕ) (octets : Bytes whole) (value : Values) (tree : Std 
       let x₁ = class-put mark q x in
       rw (flat, stage-used x) (then _ _ (trees-alike whole octets value tree low ih m₀ c₀ n
       (set (set (set (set (opening 16 k) 7 (fixed g)) 6 mark) 4 (q .begin)) 5 (q .size)) 9 0 _ c s bs x₁
-      (omega arith) (omega arith) b l) (λ v m₂ c₂ ts s₂ bs l r.
+      (omega arith) (begun x₁) b l) (λ v m₂ c₂ ts s₂ bs l r.
       let u = r .up in
       let i = text-ext (r .ext) (q .begin) (q .size) zs t in
       ends-object bs k (objectVector (not (eqb g 0)) class ts) (r .stage) refl refl (omega arith)
@@ -199,16 +179,16 @@ module _ (whole : List ℕ) (octets : Bytes whole) (value : Values) (tree : Std 
       let w = r .within in
       let o : t .first + 0 ≡ t .first = omega arith in
       rw (flat, n, r .dynamic) (then _ _ (sealed-alike whole octets value tree low ih m₀ c₀ (z .names) (t .first) (classOf k t) 9 0 m c s bs x
-      (omega arith) (omega arith) b l (rw o (r .names)) (omega arith))
+      (omega arith) (begun x) b l (rw o (r .names)) (omega arith))
       (λ v m₁ c₁ ps s₁ bs l q.
       let u = q .up in
       then _ _ (dynamics-alike whole octets value tree low ih m₀ c₀ (z .dynamic) f (set (classOf k t) 9 (0 + countPairs ps)) m₁ c₁ s₁ bs (q .stage)
-      (omega arith) (omega arith) fuel l)
+      (omega arith) fuel l)
       (λ v m₂ c₂ qs s₂ bs l q₂.
       let u₂ = q₂ .up in
       let i = text-ext (q₂ .ext) (t .begin) (t .size) (z .class) (text-ext (q .ext) (t .begin) (t .size) (z .class) (r .class)) in
       let g = text-size (m .store) (c .store) (t .begin) (t .size) (z .class) (r .class) (x .sim .storeIn) in
-      ends-object bs k (object (std.given (z .class)) ps qs) (q₂ .stage) refl refl (omega arith)
+      ends-object bs k (object (std.classGiven (z .class)) ps qs) (q₂ .stage) refl refl (omega arith)
       (refl, rw (i .0) (class-given (t .size) (z .class) g), omega arith, refl) (i .1)
       (c₁ .rows, repp-ext (q₂ .ext) ps (suc (c₀ .rows)) (c₁ .rows) (rw e at (q .kids)), q₂ .kids) l)))
 
@@ -232,14 +212,14 @@ module _ (whole : List ℕ) (octets : Bytes whole) (value : Values) (tree : Std 
       (λ sp m₁ c₁ xs s₁ bs l j t d. both (lit≤ tt) (lit≤ tt))))
 
   -- the class of a new trait is there: its names, its entry, and the members
-  inlined-alike : (n y : ℕ) (sp : Span) (xs : List ℕ) (m : Memory) (c : Cursor) (s : Tables) (bs : List ℕ) → y ≤ 1
+  inlined-alike : (n y : ℕ) (sp : Span) (xs : List ℕ) (m : Memory) (c : Cursor) (s : Tables) (bs : List ℕ)
       → Stage true m₀ c₀ (opening 10 k) (c .store) m c s → c .rows ≡ suc (c₀ .rows) → c₀ .at < c .at → low ≤ c .at → Left whole (c .at) bs
       → Text (m .store) (c .store) (sp .begin) (sp .size) xs
       → Agree whole (Val m₀ c₀ k) (our.inlined value (c₀ .rows) (traitOf sp n y c) m c bs)
       (bind (std.names n s (c .at) bs) (λ zs s. std.members tree f (c₀ .objects) (record { class = xs; dynamic = y; names = zs })
       (addTraits (record { class = xs; dynamic = y; names = zs }) s)))
   unfolding our.inlined objectClass classed
-  inlined-alike n y sp xs m c s bs h x e a b l t =
+  inlined-alike n y sp xs m c s bs x e a b l t =
       let x₁ = class-put (cond (eqb (sp .size) 0) 0 1) sp x in
       rw (flat, flat, stage-used x) (then _ _ (names-alike whole octets n _ c s bs x₁ l) (λ v m₁ c₁ zs s₁ bs l g.
       let i = g .namesUp in
@@ -251,7 +231,6 @@ module _ (whole : List ℕ) (octets : Bytes whole) (value : Values) (tree : Std 
       record {
         class = keep-text (x .sim .storeIn) (g .stage .sim) (g .keep) (sp .begin) (sp .size) xs t;
         dynamic = refl;
-        mark = h;
         count = sym d;
         within = omega arith;
         names = w .0;
@@ -259,23 +238,23 @@ module _ (whole : List ℕ) (octets : Bytes whole) (value : Values) (tree : Std 
       enter-trait whole octets (traitOf sp n y c) _ m₁ c₁ s₁ bs _ (g .stage) r (λ U x₂.
       members-alike (traitOf sp n y c) _ _ (traitsTo c₁ (c₁ .traits + 1)) _ bs x₂ (g .rowsSame ∙ e) (omega arith) (omega arith) l r)))
 
-  inline-alike : (n y : ℕ) (m : Memory) (c : Cursor) (s : Tables) (bs : List ℕ) → y ≤ 1 → Stage false m₀ c₀ (opening 10 k) (c .store) m c s
+  inline-alike : (n y : ℕ) (m : Memory) (c : Cursor) (s : Tables) (bs : List ℕ) → Stage false m₀ c₀ (opening 10 k) (c .store) m c s
       → c .rows ≡ suc (c₀ .rows) → c₀ .at < c .at → low ≤ c .at → Left whole (c .at) bs
       → Agree whole (Val m₀ c₀ k) (our.objectOf value (c₀ .rows) (Inline n y) m c bs) (std.objectOf tree f (Inline n y) s (c .at) bs)
   unfolding our.objectOf std.objectOf std.opened std.newTraits
-  inline-alike n y m c s bs h x e a b l =
+  inline-alike n y m c s bs x e a b l =
       let o : length (s .objects) ≡ c₀ .objects = sym (x .sim .objects .many) ∙ x .slot in
       rw (flat, flat, o) (enter-then (c .store) m c s bs _ x (λ O x₁.
       text-then whole octets (lasting true m₀ c₀ (opening 10 k) _ (objectsTo c (c .objects + 1))) plain (nothing _ whole octets _) _
       (objectsTo c (c .objects + 1)) _ bs _ _ (held x₁) l
       (λ sp m₁ c₁ xs s₁ bs l j t d.
-      rw flat (inlined-alike n y sp xs m₁ c₁ s₁ bs h (j .stage) (j .since .rowsSame ∙ e) (omega arith) (omega arith) l t))))
+      rw flat (inlined-alike n y sp xs m₁ c₁ s₁ bs (j .stage) (j .since .rowsSame ∙ e) (omega arith) (omega arith) l t))))
 
-  pub object-alike : (z : Shape) (m : Memory) (c : Cursor) (s : Tables) (bs : List ℕ) → Marked z → Stage false m₀ c₀ (opening 10 k) (c .store) m c s
+  pub object-alike : (z : Shape) (m : Memory) (c : Cursor) (s : Tables) (bs : List ℕ) → Stage false m₀ c₀ (opening 10 k) (c .store) m c s
       → c .rows ≡ suc (c₀ .rows) → c₀ .at < c .at → low ≤ c .at → Left whole (c .at) bs
       → Agree whole (Val m₀ c₀ k) (our.objectOf value (c₀ .rows) z m c bs) (std.objectOf tree f z s (c .at) bs)
   unfolding our.objectOf std.objectOf
-  object-alike (Object i) m c s bs h x e a b l = refer-alike x i bs a l
-  object-alike (Known i) m c s bs h x e a b l = known-alike i m c s bs x e a b l
-  object-alike External m c s bs h x e a b l = external-alike m c s bs x l
-  object-alike (Inline n y) m c s bs h x e a b l = inline-alike n y m c s bs h x e a b l
+  object-alike (Object i) m c s bs x e a b l = refer-alike x i bs a l
+  object-alike (Known i) m c s bs x e a b l = known-alike i m c s bs x e a b l
+  object-alike External m c s bs x e a b l = external-alike m c s bs x l
+  object-alike (Inline n y) m c s bs x e a b l = inline-alike n y m c s bs x e a b l

@@ -12,7 +12,7 @@ use Rattle.rows.specs.Memory.{span, colKind, colKeyMark, colKeySize, colEnd}
 use Rattle.utf8.specs.Grammar.{validText}
 use Rattle.format.specs.Standard.{isStar}
 use Rattle.format.specs.Unfold.{part}
-use Rattle.format.specs.RowTest.{isObject, signedFits, Given, keyless, keyed, filled, markOf, isFilled}
+use Rattle.format.specs.RowTest.{isObject, signedFits, Given, keyless, anyKey, fullKey, markOf, isFilled}
 use Rattle.format.proofs.Ground.{Land, at, Done, Ext, done-ext}
 use Rattle.rows.specs.Memory.{rowWidth}
 use Rattle.rows.specs.Kinds.{kindByteArray}
@@ -50,8 +50,8 @@ Other L s = isStar (part (L .store) (s .begin) (s .size)) ≡ false
 -- a key as it is given
 pub data MeetsIn (B : List ℕ) (u : ℕ) : Given → Key → Type 0 where
   bare : MeetsIn B u keyless (record { mark = 0; begin = 0; size = 0 })
-  named : {b z : ℕ} → ValidIn B u (span b z) → MeetsIn B u keyed (record { mark = 1; begin = b; size = z })
-  long : {b z : ℕ} → ValidIn B u (span b z) → 0 < z → MeetsIn B u filled (record { mark = 1; begin = b; size = z })
+  named : {b z : ℕ} → ValidIn B u (span b z) → MeetsIn B u anyKey (record { mark = 1; begin = b; size = z })
+  long : {b z : ℕ} → ValidIn B u (span b z) → 0 < z → MeetsIn B u fullKey (record { mark = 1; begin = b; size = z })
 
 abbrev pub Meets : Land → Given → Key → Type 0
 Meets L g k = MeetsIn (L .store) (L .full) g k
@@ -96,8 +96,8 @@ pub data Form (L : Land) (i : ℕ) : ℕ → List ℕ → Type 0 where
   text : {k b z e : ℕ} → Texts k → Valid L (span b z) → e ≡ suc i → Form L i k (b ∷ z ∷ 0 ∷ 0 ∷ 0 ∷ 0 ∷ 0 ∷ e ∷ [])
   bytes : {b z e : ℕ} → Within L (span b z) → e ≡ suc i → Form L i kindByteArray (b ∷ z ∷ 0 ∷ 0 ∷ 0 ∷ 0 ∷ 0 ∷ e ∷ [])
   raw : {k w b z f n e : ℕ} → Raws k w → Within L (span b z) → z ≡ w * n → f ≤ 1 → e ≡ suc i → Form L i k (b ∷ z ∷ 0 ∷ f ∷ 0 ∷ n ∷ 0 ∷ e ∷ [])
-  array : {x y mid e : ℕ} → Run L filled (suc i) mid x → Run L keyless mid e y → Form L i 9 (0 ∷ 0 ∷ 0 ∷ 0 ∷ 0 ∷ x ∷ y ∷ e ∷ [])
-  object : {b z mark x y mid e : ℕ} → Class L Full mark (span b z) → Run L keyed (suc i) mid x → Run L filled mid e y
+  array : {x y mid e : ℕ} → Run L fullKey (suc i) mid x → Run L keyless mid e y → Form L i 9 (0 ∷ 0 ∷ 0 ∷ 0 ∷ 0 ∷ x ∷ y ∷ e ∷ [])
+  object : {b z mark x y mid e : ℕ} → Class L Full mark (span b z) → Run L anyKey (suc i) mid x → Run L fullKey mid e y
       → Form L i 10 (b ∷ z ∷ mark ∷ 0 ∷ 0 ∷ x ∷ y ∷ e ∷ [])
   vector : {b z mark f x e : ℕ} → Class L (Other L) mark (span b z) → f ≤ 1 → Run L keyless (suc i) e x
       → Form L i 16 (b ∷ z ∷ mark ∷ f ∷ 0 ∷ x ∷ 0 ∷ e ∷ [])

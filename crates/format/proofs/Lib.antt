@@ -8,18 +8,24 @@ pub mod Lengths
 -- The worked examples, and that each call has one outcome.
 pub mod Examples
 pub mod Unique
+-- A reading never gives back bytes.
+pub mod Shorter
 -- Feeding is reading, however the message is cut.
+pub mod Reasons
 pub mod Placed
 pub mod Feeding
 pub mod Cuts
 pub mod Used
 pub mod Kept
 pub mod Along
+pub mod Stacked
 pub mod States
 pub mod Shows
 pub mod Pieces
 pub mod Wiped
 pub mod Depth
+-- A limit, or a loan that is full, is met for a reason.
+pub mod Limits
 -- Reading means the standard.
 pub mod Alike
 pub mod Rep
@@ -51,14 +57,16 @@ pub mod Finished
 pub mod Parts
 pub mod Emit
 pub mod Writes
--- The standard: its fuels, and that it reads back what is written.
+-- The standard: its own tables, its fuels, and that it reads back what is written.
 pub mod Fuel
 pub mod Words
+pub mod Own
 pub mod Writable
 pub mod Back
 pub mod Round
 -- Tested rows: their tree can be written, and has all its levels.
 pub mod Tested
+pub mod Walks
 pub mod Loans
 pub mod Unfolded
 pub mod Levels
@@ -71,4 +79,6 @@ pub mod Finishes
 -- What an accepted writing wrote, read again.
 pub mod Again
 pub mod Trip
+-- Loans that held a tree can hold it.
+pub mod Exactly
 pub mod Stores

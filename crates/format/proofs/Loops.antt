@@ -11,21 +11,21 @@ use lib.Seq.{set-set}
 use Rattle.rows.specs.declared.Cursor.{Cursor}
 use Rattle.rows.specs.declared.Span.{Span}
 use Rattle.rows.specs.declared.Key.{Key}
-use Rattle.rows.specs.Memory.{Memory, messageLimit, noKey, keyOf, spanAt, colKeyBegin, colKeySize, colEnd, rowUsed}
+use Rattle.rows.specs.Memory.{Memory, noKey, keyOf, spanAt, colKeyBegin, colKeySize, colEnd, rowUsed}
 use Rattle.wire.proofs.Octets.{Bytes}
-use Rattle.format.specs.Decide.{onRows, looking, counted, sealedKey}
-use Rattle.format.specs.Reading.{ResultOf, bind, _>>=_, _>>_, ret, Reader, Values, decided, by, plain}
+use Rattle.format.specs.Decide.{onRows, looking, counted, keyEnd, sealedKey}
+use Rattle.format.specs.Reading.{ResultOf, bind, _>>=_, ret, Reader, Values, decided, by, plain}
 use Rattle.format.specs.Reading as our
 use Rattle.format.specs.Standard as std
 use Rattle.format.specs.Standard.{Tables, Std, Tree, nil, cons, Pairs, noPairs, pair, noEntries, entry, count, countPairs, countEntries}
 use Rattle.format.proofs.Lists.{Kept}
 use Rattle.format.proofs.Memories.{withRows}
 use Rattle.format.proofs.Ground.{Land, at, Ext, ext-same, ext-trans, ext-put, ext-kept, landOf, landTo}
-use Rattle.format.proofs.Alike.{Left, Agree, fine, then, made, weaken, flat}
+use Rattle.format.proofs.Alike.{Left, left-enough, Agree, fine, then, made, weaken, flat}
 use Rattle.format.proofs.Rep.{Text, RepT, RepP, RepE, Rep, text-ext, rep-ext}
 use Rattle.format.proofs.Tables.{Names, names-ext, Sim}
 use Rattle.format.proofs.Stage.{Keep, Val, Stage, open-row, stage-put, stage-keep}
-use Rattle.format.proofs.Texts.{limit, text-then, text-size}
+use Rattle.format.proofs.Texts.{text-then, text-size}
 use Rattle.format.proofs.Naming.{lasting, held, nothing}
 use Rattle.rows.specs.Memory.{rowWidth}
 
@@ -50,16 +50,20 @@ pub stage-used : {o : Bool} {m₀ : Memory} {c₀ : Cursor} {cs : List ℕ} {u :
 stage-used {c₀ = c₀} {m = m} {c = c} x = let a = x .sim .rowsIn in
     rw (lt-ltb (c₀ .rows) (c .rows) (x .newer), le-leb (c .rows) (length (m .rows) / rowWidth) (omega arith))
 
+-- where no entry is done there are more rows than that: its own
+pub begun : {o : Bool} {m₀ : Memory} {c₀ : Cursor} {cs : List ℕ} {u : ℕ} {m : Memory} {c : Cursor} {s : Tables} → Stage o m₀ c₀ cs u m c s → 0 < c .rows
+begun x = let a = x .newer in omega arith
+
 module _ {whole : List ℕ} {A B : Type 0} {Q : A → Memory → Cursor → B → Tables → Type 0} {o : Bool} {m₀ : Memory} {c₀ : Cursor} (cs : List ℕ) where
   pub count-then : (j done u : ℕ) (m : Memory) (c : Cursor) (s : Tables) (bs : List ℕ) (f : Unit → Reader A) {y : ResultOf Tables ℕ B}
-      → Stage o m₀ c₀ (set cs j done) u m c s → j < colEnd → done < messageLimit
+      → Stage o m₀ c₀ (set cs j done) u m c s → j < colEnd → done < c .rows
       → ((R : List ℕ) → Stage o m₀ c₀ (set cs j (suc done)) u (withRows m R) c s → Ext (landTo u m c) (landTo u (withRows m R) c)
       → Agree whole Q (f tt (withRows m R) c bs) y) → Agree whole Q (bind (decided (onRows (counted (c₀ .rows) j done) m c) m bs) f) y
   unfolding counted
   count-then j done u m c s bs f x h l k =
       let e : set (set cs j done) j (done + 1) ≡ set cs j (suc done) = rw (set-set, add-one) in
       let x₁ = stage-put x j (done + 1) h in
-      rw (lt-leb messageLimit done l, stage-used x) (k _ (rw e at x₁) (ext-put (landTo u m c) (c₀ .rows) j (done + 1) (open-row x) (omega arith)))
+      rw (lt-leb (c .rows) done l, stage-used x) (k _ (rw e at x₁) (ext-put (landTo u m c) (c₀ .rows) j (done + 1) (open-row x) (omega arith)))
 
 -- ---- what a loop leaves
 
@@ -85,9 +89,9 @@ module _ (whole : List ℕ) (octets : Bytes whole) (value : Values) (tree : Std 
       → (k : Key) (cs : List ℕ) (j done : ℕ) (m : Memory) (c : Cursor) (s : Tables) (bs : List ℕ) (more : Reader Unit) (others : Std B)
       → ((t : Tree) (b : B) (L : Land) (n e : ℕ) → Ext (landOf m c) L → Rep t L (c .rows) → at L (c .rows) colEnd ≡ n
       → at L (c .rows) colKeyBegin ≡ k .begin → at L (c .rows) colKeySize ≡ k .size → P b L n e → P (make t b) L (c .rows) e)
-      → Stage true m₀ c₀ (set cs j done) (c .store) m c s → j < colEnd → done < c .at → low ≤ c .at → Left whole (c .at) bs
+      → Stage true m₀ c₀ (set cs j done) (c .store) m c s → j < colEnd → done < c .rows → low ≤ c .at → Left whole (c .at) bs
       → ((m₁ : Memory) (c₁ : Cursor) (s₁ : Tables) (bs : List ℕ) → Stage true m₀ c₀ (set cs j (suc done)) (c₁ .store) m₁ c₁ s₁
-      → Ext (landOf m c) (landOf m₁ c₁) → c .names ≤ c₁ .names → Kept (c .names * 2) (m .names) (m₁ .names) → c .at < c₁ .at
+      → Ext (landOf m c) (landOf m₁ c₁) → c .names ≤ c₁ .names → Kept (c .names * 2) (m .names) (m₁ .names) → c .rows < c₁ .rows → c .at < c₁ .at
       → Left whole (c₁ .at) bs → Agree whole (λ x m′ c′ b s′. Loop m₀ c₀ (set cs j (suc done + size b)) (P b) m₁ c₁ m′ c′ s′) (more m₁ c₁ bs)
       (others s₁ (c₁ .at) bs)) → Agree whole (λ x m′ c′ b s′. Loop m₀ c₀ (set cs j (done + size b)) (P b) m c m′ c′ s′)
       (bind (bind (value k m c bs) (λ x. by (onRows (counted (c₀ .rows) j done)))) (λ x. more))
@@ -95,10 +99,10 @@ module _ (whole : List ℕ) (octets : Bytes whole) (value : Values) (tree : Std 
   one-value P size make grows k cs j done m c s bs more others kids x h a b l after =
       rw flat (then _ _ (ih k m c s bs (x .sim) l b) (λ v m₁ c₁ t s₁ bs l g.
       let d = g .more in
-      let f = g .sim .limit in
+      let i : c .rows < c₁ .rows = omega (arith, g .rep .0) in
       let e₁ = keep-ext (x .sim) (g .sim) (g .keep) in
       count-then cs j done (c₁ .store) m₁ c₁ s₁ bs _ (stage-keep x (c₁ .store) (g .keep .storeUp) (g .keep) (g .sim)) h (omega arith) (λ R x₂ e₂.
-      made (make t) (after (withRows m₁ R) c₁ s₁ bs x₂ (ext-trans e₁ e₂) (g .keep .namesUp) (g .keep .names) d l) (λ v m₂ c₂ b s₂ r.
+      made (make t) (after (withRows m₁ R) c₁ s₁ bs x₂ (ext-trans e₁ e₂) (g .keep .namesUp) (g .keep .names) i d l) (λ v m₂ c₂ b s₂ r.
       let u = r .up in
       let w = grows t b in
       let e : suc done + size b ≡ done + size (make t b) = omega arith in
@@ -115,7 +119,7 @@ module _ (whole : List ℕ) (octets : Bytes whole) (value : Values) (tree : Std 
 
   -- items
   pub trees-alike : (n : ℕ) (cs : List ℕ) (j done : ℕ) (m : Memory) (c : Cursor) (s : Tables) (bs : List ℕ)
-      → Stage true m₀ c₀ (set cs j done) (c .store) m c s → j < colEnd → done < c .at → low ≤ c .at → Left whole (c .at) bs
+      → Stage true m₀ c₀ (set cs j done) (c .store) m c s → j < colEnd → done < c .rows → low ≤ c .at → Left whole (c .at) bs
       → Agree whole (λ x m′ c′ ts s′. Loop m₀ c₀ (set cs j (done + count ts)) (RepT ts) m c m′ c′ s′)
       (our.entries (λ done. value noKey) (c₀ .rows) j n done m c bs) (std.trees tree n s (c .at) bs)
   unfolding our.entries std.trees count
@@ -124,23 +128,24 @@ module _ (whole : List ℕ) (octets : Bytes whole) (value : Values) (tree : Std 
       fine {b = nil} l (record { stage = rw e at x; ext = ext-same _; kids = refl; up = omega arith })
   trees-alike (suc n) cs j done m c s bs x h a b l =
       one-value RepT count cons (λ t ts. refl) noKey cs j done m c s bs _ _ (λ t ts L n e y r f k₂ k₃ q. (r, rw f q)) x h a b l
-      (λ m₁ c₁ s₁ bs x₁ y u w d l. trees-alike n cs j (suc done) m₁ c₁ s₁ bs x₁ h (omega arith) (omega arith) l)
+      (λ m₁ c₁ s₁ bs x₁ y u w o d l. trees-alike n cs j (suc done) m₁ c₁ s₁ bs x₁ h (omega arith) (omega arith) l)
 
   -- entries of a dictionary: two values each
   pub entries-alike : (n : ℕ) (cs : List ℕ) (j done : ℕ) (m : Memory) (c : Cursor) (s : Tables) (bs : List ℕ)
-      → Stage true m₀ c₀ (set cs j done) (c .store) m c s → j < colEnd → done < c .at → low ≤ c .at → Left whole (c .at) bs
+      → Stage true m₀ c₀ (set cs j done) (c .store) m c s → j < colEnd → done < c .rows → low ≤ c .at → Left whole (c .at) bs
       → Agree whole (λ x m′ c′ es s′. Loop m₀ c₀ (set cs j (done + countEntries es)) (RepE es) m c m′ c′ s′)
-      (our.entries (λ done. value noKey >> value noKey) (c₀ .rows) j n done m c bs) (std.entries tree n s (c .at) bs)
-  unfolding our.entries std.entries countEntries
+      (our.entries (our.couple value (c₀ .rows)) (c₀ .rows) j n done m c bs) (std.entries tree n s (c .at) bs)
+  unfolding our.entries our.couple std.entries countEntries keyEnd
   entries-alike zero cs j done m c s bs x h a b l =
       let e : done ≡ done + 0 = omega arith in
       fine {b = noEntries} l (record { stage = rw e at x; ext = ext-same _; kids = refl; up = omega arith })
-  entries-alike (suc n) cs j done m c s bs x h a b l = rw (flat, flat) (then _ _ (ih noKey m c s bs (x .sim) l b) (λ v m₁ c₁ t s₁ bs l g.
+  entries-alike (suc n) cs j done m c s bs x h a b l = rw (flat, flat, flat) (then _ _ (ih noKey m c s bs (x .sim) l b) (λ v m₁ c₁ t s₁ bs l g.
       let d = g .more in
+      let i = g .keep .rowsUp in
       let x₁ = stage-keep x (c₁ .store) (g .keep .storeUp) (g .keep) (g .sim) in
-      then _ _ (ih noKey m₁ c₁ s₁ bs (g .sim) l (omega arith)) (λ v m₂ c₂ t₂ s₂ bs l g₂.
+      rw (lt-leb (c₁ .rows) done (omega arith), stage-used x₁) (then _ _ (ih noKey m₁ c₁ s₁ bs (g .sim) l (omega arith)) (λ v m₂ c₂ t₂ s₂ bs l g₂.
       let d₂ = g₂ .more in
-      let f = g₂ .sim .limit in
+      let i₂ = g₂ .rep .0 in
       count-then cs j done (c₂ .store) m₂ c₂ s₂ bs _ (stage-keep x₁ (c₂ .store) (g₂ .keep .storeUp) (g₂ .keep) (g₂ .sim)) h (omega arith) (λ R x₃ e₃.
       made (entry t t₂) (entries-alike n cs j (suc done) (withRows m₂ R) c₂ s₂ bs x₃ h (omega arith) (omega arith) l) (λ v m₄ c₄ es s₄ r.
       let u = r .up in
@@ -155,11 +160,11 @@ module _ (whole : List ℕ) (octets : Bytes whole) (value : Values) (tree : Std 
         ext = ext-trans e₁ (ext-trans e₂ e₄);
         kids = (z .0, rw (z .1) (z₂ .0), rw (z .1, z₂ .1) (r .kids));
         up = omega arith;
-      })))))
+      }))))))
 
   -- sealed members: each has its name for a key
   pub sealed-alike : (xs : List (List ℕ)) (first : ℕ) (cs : List ℕ) (j done : ℕ) (m : Memory) (c : Cursor) (s : Tables) (bs : List ℕ)
-      → Stage true m₀ c₀ (set cs j done) (c .store) m c s → j < colEnd → done < c .at → low ≤ c .at → Left whole (c .at) bs
+      → Stage true m₀ c₀ (set cs j done) (c .store) m c s → j < colEnd → done < c .rows → low ≤ c .at → Left whole (c .at) bs
       → Names (m .store) (c .store) (m .names) (first + done) xs → first + done + length xs ≤ c .names
       → Agree whole (λ x m′ c′ ps s′. Loop m₀ c₀ (set cs j (done + countPairs ps)) (RepP ps) m c m′ c′ s′)
       (our.entries (λ done. by (looking (λ m. sealedKey (first + done) (m .names))) >>= value) (c₀ .rows) j (length xs) done m c bs)
@@ -179,7 +184,7 @@ module _ (whole : List ℕ) (octets : Bytes whole) (value : Values) (tree : Std 
             (c .store) (w .0 .1),
       )
       (one-value RepP countPairs (pair y) (λ t ps. refl) (keyOf sp) cs j done m c s bs _ _ (pair-kids m c sp y (w .0)) x h a b l
-      (λ m₁ c₁ s₁ bs x₁ f u v d l.
+      (λ m₁ c₁ s₁ bs x₁ f u v o d l.
       sealed-alike ys first cs j (suc done) m₁ c₁ s₁ bs x₁ h (omega arith) (omega arith) l
       (rw p (names-ext (landOf m c) (landOf m₁ c₁) f (m .names) (m₁ .names) (c .names) v ys (suc (first + done))
       (omega arith) (w .1)))
@@ -187,9 +192,9 @@ module _ (whole : List ℕ) (octets : Bytes whole) (value : Values) (tree : Std 
 
   -- a pair whose key is read, the others after it
   one-pair : (cs : List ℕ) (j done : ℕ) (m : Memory) (c : Cursor) (s : Tables) (bs : List ℕ) (more : Reader Unit) (others : Std Pairs) (sp : Span)
-      (z : ℕ) (xs : List ℕ) → Stage true m₀ c₀ (set cs j done) (c .store) m c s → j < colEnd → done < c .at → low ≤ c .at → Left whole (c .at) bs
+      (z : ℕ) (xs : List ℕ) → Stage true m₀ c₀ (set cs j done) (c .store) m c s → j < colEnd → done < c .rows → low ≤ c .at → Left whole (c .at) bs
       → Text (m .store) (c .store) (sp .begin) (sp .size) xs → length xs ≡ z
-      → ((m₁ : Memory) (c₁ : Cursor) (s₁ : Tables) (bs : List ℕ) → Stage true m₀ c₀ (set cs j (suc done)) (c₁ .store) m₁ c₁ s₁ → c .at < c₁ .at
+      → ((m₁ : Memory) (c₁ : Cursor) (s₁ : Tables) (bs : List ℕ) → Stage true m₀ c₀ (set cs j (suc done)) (c₁ .store) m₁ c₁ s₁ → c .rows < c₁ .rows → c .at < c₁ .at
       → Left whole (c₁ .at) bs → Agree whole (λ x m′ c′ ps s′. Loop m₀ c₀ (set cs j (suc done + countPairs ps)) (RepP ps) m₁ c₁ m′ c′ s′)
       (more m₁ c₁ bs) (others s₁ (c₁ .at) bs)) → Agree whole (λ x m′ c′ ps s′. Loop m₀ c₀ (set cs j (done + countPairs ps)) (RepP ps) m c m′ c′ s′)
       (our.pair value (c₀ .rows) j done more sp z m c bs) (std.pairsFrom tree others xs s (c .at) bs)
@@ -201,25 +206,25 @@ module _ (whole : List ℕ) (octets : Bytes whole) (value : Values) (tree : Std 
   one-pair cs j done m c s bs more others sp (suc z) [] x h a b l w q k = absurd (omega arith)
   one-pair cs j done m c s bs more others sp (suc z) (y ∷ ys) x h a b l w q k =
       one-value RepP countPairs (pair (y ∷ ys)) (λ t ps. refl) (keyOf sp) cs j done m c s bs more others (pair-kids m c sp (y ∷ ys) w) x h a b l
-      (λ m₁ c₁ s₁ bs x₁ f u v d l. k m₁ c₁ s₁ bs x₁ d l)
+      (λ m₁ c₁ s₁ bs x₁ f u v o d l. k m₁ c₁ s₁ bs x₁ o d l)
 
-  -- pairs up to an empty key
-  pub pairs-alike : (most f : ℕ) (cs : List ℕ) (j done : ℕ) (m : Memory) (c : Cursor) (s : Tables) (bs : List ℕ)
-      → Stage true m₀ c₀ (set cs j done) (c .store) m c s → j < colEnd → done < c .at → low ≤ c .at → done + most ≡ messageLimit
+  -- pairs up to an empty key; both fuels are more than the bytes left
+  pairs-by : (most f : ℕ) (cs : List ℕ) (j done : ℕ) (m : Memory) (c : Cursor) (s : Tables) (bs : List ℕ)
+      → Stage true m₀ c₀ (set cs j done) (c .store) m c s → j < colEnd → done < c .rows → low ≤ c .at → length whole < most + c .at
       → length whole < f + c .at → Left whole (c .at) bs
       → Agree whole (λ x m′ c′ ps s′. Loop m₀ c₀ (set cs j (done + countPairs ps)) (RepP ps) m c m′ c′ s′)
-      (our.pairs value (c₀ .rows) j most done m c bs) (std.pairs tree f s (c .at) bs)
-  unfolding our.pairs std.pairs
-  pairs-alike zero f cs j done m c s bs x h a b e w l = let i = x .sim .limit in absurd (omega arith)
-  pairs-alike (suc most) zero cs j done m c s bs x h a b e w l = let i = l .within in absurd (omega arith)
-  pairs-alike (suc most) (suc f) cs j done m c s bs x h a b e w l =
+      (our.pairsBy value (c₀ .rows) j most done m c bs) (std.pairs tree f s (c .at) bs)
+  unfolding our.pairsBy std.pairs
+  pairs-by zero f cs j done m c s bs x h a b e w l = let i = l .within in absurd (omega arith)
+  pairs-by (suc most) zero cs j done m c s bs x h a b e w l = let i = l .within in absurd (omega arith)
+  pairs-by (suc most) (suc f) cs j done m c s bs x h a b e w l =
       text-then whole octets (lasting true m₀ c₀ (set cs j done) m c) plain (nothing _ whole octets _) m c s bs _ _ (held x) l (λ sp m₁ c₁ xs s₁ bs l y t d.
       let i = y .stage .sim in
       let q = y .since in
+      let r = q .rowsSame in
       weaken (one-pair cs j done m₁ c₁ s₁ bs _ _ sp (sp .size) xs (y .stage) h (omega arith) (omega arith) l t
       (text-size (m₁ .store) (c₁ .store) (sp .begin) (sp .size) xs t (i .storeIn))
-      (λ m₂ c₂ s₂ bs x₂ d₂ l₂. pairs-alike most f cs j (suc done) m₂ c₂ s₂ bs x₂ h (let z = x₂ .sim .limit in omega arith) (omega arith)
-      (omega arith) (omega arith) l₂))
+      (λ m₂ c₂ s₂ bs x₂ o d₂ l₂. pairs-by most f cs j (suc done) m₂ c₂ s₂ bs x₂ h (omega arith) (omega arith) (omega arith) (omega arith) l₂))
       (λ v m₂ c₂ ps s₂ r.
       let u = r .up in
       record {
@@ -229,13 +234,21 @@ module _ (whole : List ℕ) (octets : Bytes whole) (value : Values) (tree : Std 
         up = omega arith;
       }))
 
+  -- with the fuel that ours is read with
+  pub pairs-alike : (f : ℕ) (cs : List ℕ) (j : ℕ) (m : Memory) (c : Cursor) (s : Tables) (bs : List ℕ)
+      → Stage true m₀ c₀ (set cs j 0) (c .store) m c s → j < colEnd → low ≤ c .at → length whole < f + c .at → Left whole (c .at) bs
+      → Agree whole (λ x m′ c′ ps s′. Loop m₀ c₀ (set cs j (0 + countPairs ps)) (RepP ps) m c m′ c′ s′)
+      (our.pairs value (c₀ .rows) j 0 m c bs) (std.pairs tree f s (c .at) bs)
+  unfolding our.pairs
+  pairs-alike f cs j m c s bs x h b w l = pairs-by (suc (length bs)) f cs j 0 m c s bs x h (begun x) b (left-enough l) w l
+
   pub dynamics-alike : (y f : ℕ) (cs : List ℕ) (m : Memory) (c : Cursor) (s : Tables) (bs : List ℕ) → Stage true m₀ c₀ (set cs 10 0) (c .store) m c s
-      → 0 < c .at → low ≤ c .at → length whole < f → Left whole (c .at) bs
+      → low ≤ c .at → length whole < f → Left whole (c .at) bs
       → Agree whole (λ x m′ c′ ps s′. Loop m₀ c₀ (set cs 10 (countPairs ps)) (RepP ps) m c m′ c′ s′) (our.dynamics value (c₀ .rows) y m c bs)
       (std.dynamics tree f y s (c .at) bs)
   unfolding our.dynamics std.dynamics countPairs
-  dynamics-alike zero f cs m c s bs x a b w l = fine {b = noPairs} l (record { stage = x; ext = ext-same _; kids = refl; up = omega arith })
-  dynamics-alike (suc y) f cs m c s bs x a b w l =
-      weaken (pairs-alike messageLimit f cs 10 0 m c s bs x (omega arith) a b (omega arith) (omega arith) l) (λ v m′ c′ ps s′ r.
+  dynamics-alike zero f cs m c s bs x b w l = fine {b = noPairs} l (record { stage = x; ext = ext-same _; kids = refl; up = omega arith })
+  dynamics-alike (suc y) f cs m c s bs x b w l =
+      weaken (pairs-alike f cs 10 m c s bs x (omega arith) b (omega arith) l) (λ v m′ c′ ps s′ r.
       let e : 0 + countPairs ps ≡ countPairs ps = omega arith in
       record { stage = rw e at (r .stage); ext = r .ext; kids = r .kids; up = r .up })

@@ -2,7 +2,7 @@
 use mathlib.Core.Path.{_≡_, refl, sym, ap, _∙_}
 use mathlib.Core.List.{List, _++_}
 use mathlib.Core.Logic.{_≢_}
-use Prim.Native.Nat.{ℕ, zero, suc, _+_, _*_, _/_, _≤_}
+use Prim.Native.Nat.{ℕ, zero, suc, _+_, _*_, _≤_}
 use native.Mathlib.Omega.{arith}
 use borrow.Author.Tests.{lt-ltb}
 use lib.ListN.{length, take, take-append-drop}
@@ -15,40 +15,37 @@ use Rattle.format.specs.Reading as our
 use Rattle.format.specs.Standard.{Tables, Tree, noTables, standard}
 use Rattle.format.specs.Unfold.{rowsIn, unfolded}
 use Rattle.format.specs.Unfold as flatly
+use Rattle.format.specs.RowTest.{keyless}
 use Rattle.format.proofs.Tests.{clash}
 use Rattle.format.proofs.Lists.{Kept, part-kept}
 use Rattle.format.proofs.Ground.{landOf}
 use Rattle.format.proofs.Alike.{Agree, fine, both, ours}
 use Rattle.format.proofs.Tables.{Sim}
+use Rattle.format.proofs.Rep.{Rep}
 use Rattle.format.proofs.Stage.{Val}
+use Rattle.format.proofs.Tested.{formed-of}
+use Rattle.format.proofs.RowTests.{well-formed}
+use Rattle.format.proofs.Levels.{more-levels}
+use Rattle.format.proofs.Posts.{Post}
+use Rattle.format.proofs.Stages as stages
+use Rattle.format.proofs.Finished.{finished-val, val-table, fresh-reads}
+pub use Rattle.format.proofs.Finished.{usedRows, usedStore, used-many}
 use Rattle.format.proofs.Unfolding.{View, rep-unfolds}
 use Rattle.format.proofs.Values.{value-alike}
+use Rattle.format.proofs.Limits.{Limit, limit-most, limits}
 use Rattle.format.specs.Refusals as refusals
 
 -- ---- what is said of a reading and the standard's
 
--- the part of the rows and of the store that a finished reading used
-abbrev pub usedRows : Cursor → Memory → List ℕ
-usedRows c m = take (c .rows * rowWidth) (m .rows)
-
-abbrev pub usedStore : Cursor → Memory → List ℕ
-usedStore c m = take (c .store) (m .store)
-
-pub used-many : (c : Cursor) (m : Memory) → c .rows * rowWidth ≤ length (m .rows) → rowsIn (usedRows c m) ≡ c .rows
-used-many c m h =
-    let e : length (usedRows c m) ≡ c .rows * rowWidth = length-take-le (c .rows * rowWidth) (m .rows) h in
-    let q : rowsIn (usedRows c m) ≡ c .rows * rowWidth / rowWidth = ap (λ z. z / rowWidth) e in
-    omega arith
-
--- how a reading of bs and the standard's end
-pub data Accord (bs : List ℕ) : Ended → ResultOf Tables ℕ Tree → Type 0 where
+-- how a reading of bs with the loans lent, and the standard's, end
+pub data Accord (lent : Memory) (bs : List ℕ) : Ended → ResultOf Tables ℕ Tree → Type 0 where
   -- both finish after as many bytes, and the rows that are used unfold to the standard's tree
   reads : {c : Cursor} {m : Memory} {t : Tree} {s : Tables} {rest : List ℕ} → bs ≡ take (c .at) bs ++ rest → c .at ≤ length bs
-      → unfolded (usedRows c m) (usedStore c m) 0 ≡ t → unfolded (usedRows c m) (m .store) 0 ≡ t → Accord bs (finished c m) (ok t s (c .at) rest)
+      → unfolded (usedRows c m) (usedStore c m) 0 ≡ t → unfolded (usedRows c m) (m .store) 0 ≡ t → Accord lent bs (finished c m) (ok t s (c .at) rest)
   -- both refuse alike, by a number of the standard's
-  refuses : {n told place : ℕ} {m : Memory} {s : Tables} → 2 ≤ n → n ≤ 8 → Accord bs (refused n told place m) (bad n told place s)
-  -- a limit or a loan is met
-  limited : {n told place : ℕ} {m : Memory} {y : ResultOf Tables ℕ Tree} → refusals.tooDeep ≤ n → n ≤ refusals.tooLong → Accord bs (refused n told place m) y
+  refuses : {n told place : ℕ} {m : Memory} {s : Tables} → 2 ≤ n → n ≤ 8 → Accord lent bs (refused n told place m) (bad n told place s)
+  -- a limit is met, or a loan is full, and why
+  limited : {n told place : ℕ} {m : Memory} {y : ResultOf Tables ℕ Tree} → Limit lent bs n told place → Accord lent bs (refused n told place m) y
 
 -- ---- a fresh reading
 
@@ -84,39 +81,57 @@ view {m} {c} {s} x B h k =
       texts = λ b z l. part-kept (c .store) (m .store) B b z k (x .storeIn) h l;
     }
 
-accord : (m₀ : Memory) (bs : List ℕ) (x : Result Unit) (y : ResultOf Tables ℕ Tree) → Agree bs (Val m₀ fresh noKey) x y → Accord bs (ended x) y
+-- the rows that stand for a tree unfold to it, with a store that is the same as far as it was used
+unfolds : {m₀ m : Memory} {c : Cursor} {s : Tables} (t : Tree) (B : List ℕ) → Sim (c .store) m c s → stages.Val keyless m₀ fresh m c → Rep t (landOf m c) 0
+    → c .store ≤ length B → Kept (c .store) (m .store) B → unfolded (usedRows c m) B 0 ≡ t
+unfolds {m = m} {c = c} t B s v r l k =
+    let R : List ℕ = usedRows c m in
+    let table = val-table v B l k in
+    let n = used-many c m (s .rowsIn) in
+    let n² : ℕ = c .rows * c .rows in
+    sym (more-levels R B (λ i h. formed-of R B i (well-formed table i h)) (suc (n² + c .rows)) 0 (table .some) (omega arith))
+    ∙ rep-unfolds (landOf m c) R B (view s B l k) t 0 (n² + c .rows) r (omega arith)
+
+-- by how both end
+accord : (lent : Memory) (bs : List ℕ) (x : Result Unit) (y : ResultOf Tables ℕ Tree) → faultOf lent ≡ 0 → reading lent bs ≡ ended x
+    → Post (λ u. stages.Val keyless (zeroed lent) fresh) x → Agree bs (Val (zeroed lent) fresh noKey) x y → Accord lent bs (ended x) y
 unfolding ended
-accord m₀ bs x y (fine {m = m} {c = c} {b = t} {bs = rest} l v) =
+accord lent bs x y e q p (fine {m = m} {c = c} {b = t} {bs = rest} l v) =
     let s = v .sim in
     let i = s .storeIn in
+    let w = finished-val _ c m p refl in
     reads (sym (take-append-drop (c .at) bs) ∙ ap (λ z. take (c .at) bs ++ z) (sym (l .rest))) (l .within)
-    (rep-unfolds (landOf m c) (usedRows c m) (usedStore c m)
-    (view s (usedStore c m) (let e = length-take-le (c .store) (m .store) i in omega arith) (λ j h. getD-take (c .store) (m .store) j 0 h)) t 0
-    (v .rep))
-    (rep-unfolds (landOf m c) (usedRows c m) (m .store) (view s (m .store) i (λ j h. refl)) t 0 (v .rep))
-accord m₀ bs x y (both h i) = refuses h i
-accord m₀ bs x y (ours h i) = limited h i
+    (unfolds t (usedStore c m) s w (v .rep) (let e = length-take-le (c .store) (m .store) i in omega arith) (λ j h. getD-take (c .store) (m .store) j 0 h))
+    (unfolds t (m .store) s w (v .rep) i (λ j h. refl))
+accord lent bs x y e q p (both h i) = refuses h i
+accord lent bs x y e q p (ours {m = m} h i) = limited (limits lent bs (zeroed m) e h i q)
 
 -- ---- the theorems
 
--- reading means the standard
-pub reading-means : (m : Memory) (bs : List ℕ) → Bytes bs → faultOf m ≡ 0 → Accord bs (reading m bs) (standard bs)
+-- where no loan is faulty the reading is the first value's
+unfaulted : (m : Memory) (bs : List ℕ) → faultOf m ≡ 0 → reading m bs ≡ ended (our.value openLimit noKey (zeroed m) fresh bs)
 unfolding reading
-reading-means m bs h e = rw e (accord (zeroed m) bs _ _ (read-alike (zeroed m) bs h))
+unfaulted m bs e = rw e
+
+-- reading means the standard
+pub reading-means : (m : Memory) (bs : List ℕ) → Bytes bs → faultOf m ≡ 0 → Accord m bs (reading m bs) (standard bs)
+reading-means m bs h e =
+    let q : reading m bs ≡ ended (our.value openLimit noKey (zeroed m) fresh bs) = unfaulted m bs e in
+    rw q (accord m bs _ _ e q (fresh-reads (zeroed m) bs) (read-alike (zeroed m) bs h))
 
 -- whatever the loans, a reading never says 12
 pub never-lost : (m : Memory) (bs : List ℕ) → Bytes bs → (n told place : ℕ) (m′ : Memory) → reading m bs ≡ refused n told place m′ → n ≢ refusals.lost
 unfolding reading
-never-lost m bs h n told place m′ = by-fault (faultOf m)
+never-lost m bs h n told place m′ = by-fault (faultOf m) refl
   where
-    met : (e : Ended) (y : ResultOf Tables ℕ Tree) → Accord bs e y → e ≡ refused n told place m′ → n ≢ refusals.lost
+    met : (e : Ended) (y : ResultOf Tables ℕ Tree) → Accord m bs e y → e ≡ refused n told place m′ → n ≢ refusals.lost
     met e y (reads p q r s) d = clash cc
     met e y (refuses {n = k} p q) d = let z : k ≡ n = cc in λ w. omega arith
-    met e y (limited {n = k} p q) d = let z : k ≡ n = cc in λ w. omega arith
+    met e y (limited {n = k} l) d = let z : k ≡ n = cc in let (p, q) = limit-most l in λ w. omega arith
 
-    by-fault : (k : ℕ) → unlessFault k m (ended (our.value openLimit noKey (zeroed m) fresh bs)) ≡ refused n told place m′ → n ≢ refusals.lost
-    by-fault zero d = met _ _ (accord (zeroed m) bs _ _ (read-alike (zeroed m) bs h)) d
-    by-fault (suc k) d = let z : 1 ≡ n = cc in λ w. omega arith
+    by-fault : (k : ℕ) → faultOf m ≡ k → unlessFault k m (ended (our.value openLimit noKey (zeroed m) fresh bs)) ≡ refused n told place m′ → n ≢ refusals.lost
+    by-fault zero e d = met _ _ (reading-means m bs h e) (unfaulted m bs e ∙ d)
+    by-fault (suc k) e d = let z : 1 ≡ n = cc in λ w. omega arith
 
 -- what a finished reading says
 pub record Understood (bs : List ℕ) (y : ResultOf Tables ℕ Tree) (c : Cursor) (m : Memory) : Type 0 where
@@ -129,19 +144,19 @@ pub record Understood (bs : List ℕ) (y : ResultOf Tables ℕ Tree) (c : Cursor
   pub unfolds : unfolded (usedRows c m) (usedStore c m) 0 ≡ tree
   pub unfoldsWhole : unfolded (usedRows c m) (m .store) 0 ≡ tree
 
--- what the standard finishes, or refuses, a reading finishes or refuses so, unless a limit or a loan is met
-pub data Kept-to (e : Ended) : ResultOf Tables ℕ Tree → Type 0 where
+-- what the standard finishes, or refuses, a reading of bs with the loans lent finishes or refuses so, unless a limit is met, or a loan is full, and why
+pub data Kept-to (lent : Memory) (bs : List ℕ) (e : Ended) : ResultOf Tables ℕ Tree → Type 0 where
   finishes : {t : Tree} {s : Tables} {p : ℕ} {rest : List ℕ} (c : Cursor) (m′ : Memory) → e ≡ finished c m′ → c .at ≡ p
-      → unfolded (usedRows c m′) (usedStore c m′) 0 ≡ t → Kept-to e (ok t s p rest)
-  stops : {n told place : ℕ} {s : Tables} (m′ : Memory) → e ≡ refused n told place m′ → Kept-to e (bad n told place s)
-  meets : {y : ResultOf Tables ℕ Tree} (n told place : ℕ) (m′ : Memory) → refusals.tooDeep ≤ n → n ≤ refusals.tooLong → e ≡ refused n told place m′ → Kept-to e y
+      → unfolded (usedRows c m′) (usedStore c m′) 0 ≡ t → Kept-to lent bs e (ok t s p rest)
+  stops : {n told place : ℕ} {s : Tables} (m′ : Memory) → e ≡ refused n told place m′ → Kept-to lent bs e (bad n told place s)
+  meets : {y : ResultOf Tables ℕ Tree} (n told place : ℕ) (m′ : Memory) → Limit lent bs n told place → e ≡ refused n told place m′ → Kept-to lent bs e y
 
 module _ (m : Memory) (bs : List ℕ) (octets : Bytes bs) (accepted : faultOf m ≡ 0) where
   -- what is finished is the standard's tree
   pub finished-means : (c : Cursor) (m′ : Memory) → reading m bs ≡ finished c m′ → Understood bs (standard bs) c m′
   finished-means c m′ = met (reading m bs) (standard bs) (reading-means m bs octets accepted)
     where
-      met : (e : Ended) (y : ResultOf Tables ℕ Tree) → Accord bs e y → e ≡ finished c m′ → Understood bs y c m′
+      met : (e : Ended) (y : ResultOf Tables ℕ Tree) → Accord m bs e y → e ≡ finished c m′ → Understood bs y c m′
       met e y (reads {c = k} {m = n} {t = t} {s = s} {rest = rest} p q r w) d =
           let f : k ≡ c = cc in
           let g : n ≡ m′ = cc in
@@ -156,14 +171,14 @@ module _ (m : Memory) (bs : List ℕ) (octets : Bytes bs) (accepted : faultOf m 
             unfoldsWhole = rw (f, g) at w;
           }
       met e y (refuses p q) d = clash cc
-      met e y (limited p q) d = clash cc
+      met e y (limited l) d = clash cc
 
   -- what is refused, but by a limit or a loan, the standard refuses so
   pub refused-means : (n told place : ℕ) (m′ : Memory) → reading m bs ≡ refused n told place m′ → n ≢ refusals.tooDeep → n ≢ refusals.noRoom → n ≢ refusals.tooLong
       → (s : Tables) × (standard bs ≡ bad n told place s)
   refused-means n told place m′ = met (reading m bs) (standard bs) (reading-means m bs octets accepted)
     where
-      met : (e : Ended) (y : ResultOf Tables ℕ Tree) → Accord bs e y → e ≡ refused n told place m′ → n ≢ refusals.tooDeep → n ≢ refusals.noRoom → n ≢ refusals.tooLong
+      met : (e : Ended) (y : ResultOf Tables ℕ Tree) → Accord m bs e y → e ≡ refused n told place m′ → n ≢ refusals.tooDeep → n ≢ refusals.noRoom → n ≢ refusals.tooLong
           → (s : Tables) × (y ≡ bad n told place s)
       met e y (reads p q r w) d a b c = clash cc
       met e y (refuses {n = k} {told = u} {place = v} {s = s} p q) d a b c =
@@ -171,13 +186,13 @@ module _ (m : Memory) (bs : List ℕ) (octets : Bytes bs) (accepted : faultOf m 
           let g : u ≡ told = cc in
           let h : v ≡ place = cc in
           (s, rw (f, g, h))
-      met e y (limited {n = k} p q) d a b c = let f : k ≡ n = cc in absurd (omega arith)
+      met e y (limited {n = k} l) d a b c = let f : k ≡ n = cc in let (p, q) = limit-most l in absurd (omega arith)
 
   -- and the other way round
-  pub standard-kept : Kept-to (reading m bs) (standard bs)
+  pub standard-kept : Kept-to m bs (reading m bs) (standard bs)
   standard-kept = met (reading m bs) (standard bs) (reading-means m bs octets accepted)
     where
-      met : (e : Ended) (y : ResultOf Tables ℕ Tree) → Accord bs e y → Kept-to e y
+      met : (e : Ended) (y : ResultOf Tables ℕ Tree) → Accord m bs e y → Kept-to m bs e y
       met e y (reads {c = c} {m = m′} p q r w) = finishes c m′ refl refl r
       met e y (refuses {m = m′} p q) = stops m′ refl
-      met e y (limited {n = n} {told = told} {place = place} {m = m′} p q) = meets n told place m′ p q refl
+      met e y (limited {n = n} {told = told} {place = place} {m = m′} l) = meets n told place m′ l refl

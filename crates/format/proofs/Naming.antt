@@ -154,7 +154,6 @@ module _ (whole : List ℕ) (octets : Bytes whole) {m₀ : Memory} {c₀ : Curso
             rw (
               lt-leb (c .traits) i h,
               le-leb _ (c .store) (t .class .1),
-              le-leb _ 1 (t .mark),
               le-leb _ (c .names) (t .within),
               lt-ltb i
                   (length (s .traits)) b,
@@ -178,8 +177,6 @@ module _ (whole : List ℕ) (octets : Bytes whole) {m₀ : Memory} {c₀ : Curso
       rw (
         le-ltb (length (m .traits) / 5) (c .traits) (omega arith),
         le-leb (t .begin + t .size) (c .store) (r .class .1),
-        le-leb (t .dynamic) 1
-            (r .mark),
         le-leb (t .first + t .count) (c .names) (r .within),
       )
       (limit (λ U. withTraits m U) (leb (length (m .traits) / 5) (c .traits)) 10 5 (c .at) _ m bs _ (lit≤ tt) (lit≤ tt) (λ q.

@@ -6,15 +6,16 @@ use mathlib.Core.List.{List, [], _∷_, _++_}
 use Prim.Native.Nat.{ℕ, _+_, _≤_}
 use native.Mathlib.Nat.{zero-add, add-assoc}
 use native.Mathlib.Omega.{arith}
-use lib.Dec.{leb, eqb}
+use lib.Dec.{eqb}
 use lib.ListN.{length}
 use Rattle.rows.specs.Memory.{Memory, zeroed}
+use Rattle.wire.proofs.Octets.{Bytes}
 use Rattle.format.specs.declared.Answer.{Answer}
 use Rattle.format.specs.declared.Answer.the-variants.{Waiting, Finished, Refused}
 use Rattle.format.specs.declared.Lent.{Lent}
 use Rattle.format.specs.Reading.{Ended, finished, refused}
 use Rattle.format.specs.Step.{State, wait, over, none, run, end, begin}
-use Rattle.format.specs.Numbers.{Numbers, Held, held, lentOf, stateOf, numbersOf, memoryOf, afterStep, byteStep}
+use Rattle.format.specs.Numbers.{Numbers, Held, held, finishable, lentOf, stateOf, numbersOf, memoryOf, afterStep, byteStep}
 use Rattle.format.specs.Answers.{Fed, fed, answerOf, answered, blank, beginCall, runHeld, costFrom, stateIn, takenBy, feedCall, endOf, endCall}
 use Rattle.format.specs.Answers.{Read, read, readOf, readCall}
 use Rattle.format.proofs.Tests.{on-bool}
@@ -173,7 +174,7 @@ unread (read a m) = read (untaken a) m
 
 -- what waits is refused by 2
 end-wait : (n : Numbers) (at : ℕ) (k : Memory) → endRead (answered (afterStep n (over (refused 2 0 at (zeroed k)))) 0) ≡ read (Refused 2 0 at 0) (zeroed k)
-unfolding afterStep numbersOf stateOf
+unfolding afterStep numbersOf stateOf refusals.sayable
 end-wait n at k = refl
 
 -- what has ended keeps its answer and its loans
@@ -197,15 +198,17 @@ unfolding beginCall
 held-begin m = held-answered (afterStep (blank (lentOf m)) (begin m)) 0
 
 -- the numbers after the pieces show the state after the joined bytes
-pub shows-pieces : (m : Memory) (pieces : List (List ℕ))
+pub shows-pieces : (m : Memory) (pieces : List (List ℕ)) → Bytes (joined pieces)
     → Shows (lentOf m) (takes (begin m) (joined pieces)) (run (begin m) (joined pieces)) (heldIn (fedPieces (beginCall m) pieces))
-shows-pieces m pieces = rw (held-pieces, held-begin) (rw zero-add at (shows-run (begin m) (afterStep (blank (lentOf m)) (begin m)) (joined pieces) (shows-begin m)))
+shows-pieces m pieces o =
+    rw (held-pieces, held-begin) (rw zero-add at (shows-run (begin m) (afterStep (blank (lentOf m)) (begin m)) (joined pieces) o (shows-begin m)))
 
 -- begin, a feed of each piece, and the end give the answer and the loans of reading the joined bytes
-pub feeding-calls : (m : Memory) (pieces : List (List ℕ)) → endRead (endBy (fedPieces (beginCall m) pieces)) ≡ unread (readCall m (joined pieces))
+pub feeding-calls : (m : Memory) (pieces : List (List ℕ)) → Bytes (joined pieces)
+    → endRead (endBy (fedPieces (beginCall m) pieces)) ≡ unread (readCall m (joined pieces))
 unfolding readCall
-feeding-calls m pieces =
-    end-shows (run (begin m) (joined pieces)) (fedPieces (beginCall m) pieces) (shows-pieces m pieces) ∙ ap (λ e. unread (readOf e)) (feeding m (joined pieces))
+feeding-calls m pieces o =
+    end-shows (run (begin m) (joined pieces)) (fedPieces (beginCall m) pieces) (shows-pieces m pieces o) ∙ ap (λ e. unread (readOf e)) (feeding m (joined pieces))
 
 -- a finished reading took what the pieces took
 taken-good : {lent : Lent} {at : ℕ} (s : State) (rows bytes taken : ℕ) (k : Memory) → Good lent at s
@@ -215,13 +218,13 @@ taken-good s rows bytes taken k (waits h f u) e = cc
 taken-good s rows bytes taken k (finishes h) e = cc
 taken-good s rows bytes taken k (declines t h z) e = cc
 
-pub taken-calls : (m : Memory) (pieces : List (List ℕ)) (rows bytes taken : ℕ) (k : Memory)
+pub taken-calls : (m : Memory) (pieces : List (List ℕ)) (rows bytes taken : ℕ) (k : Memory) → Bytes (joined pieces)
     → readCall m (joined pieces) ≡ read (Finished rows bytes taken) k → tally (beginCall m) pieces ≡ taken
 unfolding readCall
-taken-calls m pieces rows bytes taken k e =
+taken-calls m pieces rows bytes taken k o e =
     tally-taken (beginCall m) pieces ∙ ap (λ h. takenBy h (joined pieces)) (held-begin m)
-    ∙ taken-run (begin m) (afterStep (blank (lentOf m)) (begin m)) (joined pieces) (shows-begin m)
-    ∙ taken-good (run (begin m) (joined pieces)) rows bytes taken k ((shows-pieces m pieces) .good) (ap readOf (feeding m (joined pieces)) ∙ e)
+    ∙ taken-run (begin m) (afterStep (blank (lentOf m)) (begin m)) (joined pieces) o (shows-begin m)
+    ∙ taken-good (run (begin m) (joined pieces)) rows bytes taken k ((shows-pieces m pieces o) .good) (ap readOf (feeding m (joined pieces)) ∙ e)
 
 -- ---- what changes nothing
 
@@ -247,8 +250,8 @@ answer-relent (refused number told place m) k = refl
 state-relent : (n : Numbers) (m k : Memory) → stateOf n k ≡ relent (stateOf n m) k
 unfolding stateOf
 state-relent n m k = on-bool (eqb (n .head .status) 1) (λ e. rw e) (λ e. rw e
-    (on-bool (eqb (n .head .status) 2) (λ e. rw e) (λ e. rw e
-    (on-bool (eqb (n .head .status) 3 && leb refusals.badLoan (n .head .number) && leb (n .head .number) refusals.lost) (λ e. rw e) (λ e. rw e)))))
+    (on-bool (eqb (n .head .status) 2 && finishable (n .head .cursor)) (λ e. rw e) (λ e. rw e
+    (on-bool (eqb (n .head .status) 3 && refusals.sayable (n .head .number) (n .head .told) (n .head .place)) (λ e. rw e) (λ e. rw e)))))
 
 module _ (n : Numbers) (k : Memory) (e : Ended) (h : stateOf n k ≡ over e) where
   byte-over : (b : ℕ) → byteStep b (held n k) ≡ held n k

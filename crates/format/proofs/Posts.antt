@@ -22,7 +22,7 @@ use Rattle.wire.specs.U29.{partOf}
 use Rattle.wire.specs.Big.{digitOf}
 use Rattle.wire.specs.Date.{dateOf}
 use Rattle.format.specs.Decide.{Out, stop, give, lift, rowsTo, storeTo, stringsTo, objectsTo, traitsTo, namesTo, traitAt, traitHolds, newRow, marker}
-use Rattle.format.specs.Decide.{closed, numbered, dated, dateEnd, bodied, classed, flagged, counted, grown, Width, widthOf, oldText, reserved, stored}
+use Rattle.format.specs.Decide.{closed, numbered, dated, dateEnd, bodied, classed, flagged, counted, keyEnd, grown, Width, widthOf, oldText, reserved, stored}
 use Rattle.format.specs.Decide.{judged, textEnd, entered, referred, oldTrait, named, traitEnd, sealedKey, starred}
 use Rattle.format.specs.Reading.{ok, bad, bind, Result, Reader, decided, byte, u29, number, onPart}
 use Rattle.format.proofs.Tests.{on-bool}
@@ -100,7 +100,7 @@ module _ {Q : Unit {0} → List ℕ → Cursor → Type 0} (row : ℕ) (R : List
 
   pub wp-counted : (col done : ℕ) → Q tt (put R row col (done + 1)) c → Gives Q (counted row col done R c)
   unfolding counted
-  wp-counted col done h = unless (leb messageLimit done) halts (λ e. only (rowUsed R c row) (λ e. gives h) halts)
+  wp-counted col done h = unless (leb (c .rows) done) halts (λ e. only (rowUsed R c row) (λ e. gives h) halts)
 
   pub wp-grown : (w : Width) (s : Span) (n : ℕ) → Q tt (put R row colCount ((s .size - n) / widthOf w)) c → Gives Q (grown row w s n R c)
   unfolding grown
@@ -124,6 +124,11 @@ wp-marker k left b R c h =
     (λ f. unless (eqb left 0) halts (λ g. unless (leb (length R / rowWidth) (c .rows)) halts (λ i.
     let l = leb-false (length R / rowWidth) (c .rows) i in
     gives (h (ltb-false 17 b f) (omega arith))))))
+
+-- a row is only looked at
+pub wp-key-end : {Q : Unit {0} → Unit {0} → Cursor → Type 0} (row done : ℕ) (R : List ℕ) (c : Cursor) → Q tt tt c → Gives Q (keyEnd row done R c)
+unfolding keyEnd
+wp-key-end row done R c h = unless (leb (c .rows) done) halts (λ e. only (rowUsed R c row) (λ e. gives h) halts)
 
 -- ---- the other loans
 

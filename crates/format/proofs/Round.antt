@@ -11,11 +11,11 @@ use lib.ListN.{length}
 use Rattle.wire.specs.U29.{u29}
 use Rattle.utf8.specs.Grammar.{follow, validText}
 use Rattle.format.specs.Decide as k
-use Rattle.format.specs.Decide.{kindOf}
+use Rattle.format.specs.Standard.{follows}
 use Rattle.format.specs.Reading.{ok}
 use Rattle.format.specs.Standard.{Tree, plain, array, object, objectVector, dictionary, Trees, nil, cons, Pairs, noPairs, pair, Entries}
 use Rattle.format.specs.Standard.{noEntries, entry}
-use Rattle.format.specs.Standard.{Tables, noTables, Std, text, shut, names, newTraits, given, starred, trees, sealed, pairsFrom, pairs}
+use Rattle.format.specs.Standard.{Tables, noTables, Std, text, shut, names, newTraits, classGiven, starred, trees, sealed, pairsFrom, pairs}
 use Rattle.format.specs.Standard.{dynamics, entries, members, objectOf, newOf, marked, value, standard}
 use Rattle.format.specs.Standard.{count, countPairs, countEntries, sizeBytes, textBytes, nameBytes, flagByte, classBytes, traitWord}
 use Rattle.format.specs.Standard.{arrayHead, objectHead, vectorHead, dictionaryHead}
@@ -74,8 +74,8 @@ reads-class : {P : List ℕ → Type 0} → ((t : List ℕ) → P t → IsText t
 reads-class p none′ h none g = reads-text none′ h
 reads-class p none′ h (some t) g = reads-text t (p t g)
 
-given-class : (class : Option (List ℕ)) → IfGiven IsKey class → given (classText [] class) ≡ class
-unfolding given
+given-class : (class : Option (List ℕ)) → IfGiven IsKey class → classGiven (classText [] class) ≡ class
+unfolding classGiven
 given-class none h = refl
 given-class (some []) h = absurd (omega (arith, h .filled))
 given-class (some (b ∷ t)) h = refl
@@ -121,7 +121,7 @@ module _ (v : Std Tree) where
 module _ (f d : ℕ) where
   reads-array : (xs : Pairs) (ts : Trees) → count ts < 2 ^ 28 → Reads (pairs (value f d) f) (encodePairs xs ++ 0x01 ∷ []) xs
       → Reads (trees (value f d) (count ts)) (encodeTrees ts) ts → Reads (value f (suc d)) (encode (array xs ts)) (array xs ts)
-  unfolding encode arrayHead kindOf newOf
+  unfolding encode arrayHead follows newOf
   reads-array xs ts l p q =
       regroup (0x09 ∷ (sizeBytes (count ts) ++ ((encodePairs xs ++ 0x01 ∷ []) ++ encodeTrees ts))) (simp append-assoc)
       (reads-marked f d 0x09 refl (reads-sized (value f d) f 0x09 k.array (count ts) l (reads-bind _ p (reads-last _ q reads-ret))))
@@ -129,7 +129,7 @@ module _ (f d : ℕ) where
   reads-vector : (fixed : Bool) (class : Option (List ℕ)) (ts : Trees) → IfGiven IsType class → count ts < 2 ^ 28
       → Reads (trees (value f d) (count ts)) (encodeTrees ts) ts
       → Reads (value f (suc d)) (encode (objectVector fixed class ts)) (objectVector fixed class ts)
-  unfolding encode vectorHead kindOf newOf
+  unfolding encode vectorHead follows newOf
   reads-vector fixed class ts g l q =
       regroup (0x10 ∷ (sizeBytes (count ts) ++ flagByte fixed ∷ (classBytes (0x2A ∷ []) class ++ encodeTrees ts))) (simp append-assoc)
       (reads-marked f d 0x10 refl (reads-sized (value f d) f 0x10 k.objects (count ts) l
@@ -139,7 +139,7 @@ module _ (f d : ℕ) where
   reads-dictionary : (weak : Bool) (es : Entries) → countEntries es < 2 ^ 28
       → Reads (entries (value f d) (countEntries es)) (encodeEntries es) es
       → Reads (value f (suc d)) (encode (dictionary weak es)) (dictionary weak es)
-  unfolding encode dictionaryHead kindOf newOf
+  unfolding encode dictionaryHead follows newOf
   reads-dictionary weak es l q =
       regroup (0x11 ∷ (sizeBytes (countEntries es) ++ flagByte weak ∷ encodeEntries es)) (simp append-assoc)
       (reads-marked f d 0x11 refl (reads-sized (value f d) f 0x11 k.dictionary (countEntries es) l
@@ -148,7 +148,7 @@ module _ (f d : ℕ) where
   reads-object : (class : Option (List ℕ)) (xs ys : Pairs) → IfGiven IsKey class → WritableMembers xs → countPairs xs < 2 ^ 25
       → Reads (sealed (value f d) (namesOf xs)) (encodeValues xs) xs → Reads (pairs (value f d) f) (encodePairs ys ++ 0x01 ∷ []) ys
       → Reads (value f (suc d)) (encode (object class xs ys)) (object class xs ys)
-  unfolding encode objectHead kindOf marked objectOf newTraits members shut
+  unfolding encode objectHead follows marked objectOf newTraits members shut
   reads-object class xs ys g h l p q =
       regroup (0x0A ∷ (u29 (traitWord xs ys) ++ ((classBytes [] class ++ nameBytes xs) ++ (encodeValues xs ++ encodeDynamic ys)))) (simp append-assoc)
       (reads-marked f d 0x0A refl

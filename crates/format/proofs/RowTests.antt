@@ -1,12 +1,11 @@
 -- Rows that are all sound, below a root that has no key and ends with them, pass the row test, but for dates over 2 ^ 53.
 use mathlib.Core.Path.{_≡_, refl, sym, ap, _∙_}
-use mathlib.Core.Bool.{Bool, true, false, cond, not, _&&_, _||_}
+use mathlib.Core.Bool.{Bool, true, false, cond, not, _||_}
 use mathlib.Core.List.{List, _∷_}
-use mathlib.Core.Logic.{_≢_}
 use Prim.Native.Nat.{ℕ, zero, suc, _+_, _*_, _-_, _^_, _<_, _≤_}
 use native.Mathlib.Omega.{arith}
 use native.Mathlib.Decide.{decLt, ℕ-discrete}
-use borrow.Author.Tests.{lt-ltb, le-ltb, le-leb, eq-eqb, ne-eqb, ltb-true, leb-true, eqb-true, eqb-false}
+use borrow.Author.Tests.{lt-ltb, le-ltb, le-leb, eq-eqb, ne-eqb, ltb-true, leb-true, eqb-true}
 use lib.Dec.{T, leb, ltb, eqb}
 use lib.ListN.{length, getD}
 use Rattle.rows.specs.declared.Key.{Key}
@@ -14,10 +13,11 @@ use Rattle.rows.specs.Memory.{span, colKind, colKeyMark, colNumber, colEnd}
 use Rattle.rows.specs.Kinds.{kindDate}
 use Rattle.utf8.specs.Grammar.{validText, follow}
 use Rattle.format.specs.Unfold.{rowsIn, col, part, after}
-use Rattle.format.specs.RowTest.{spanFits, markFits, columnsFit, signedFits, valueFits, children, closes, Given, keyless, gives, givenIn, given}
+use Rattle.format.specs.RowTest.{spanFits, markFits, columnsFit, signedFits, valueFits, children, closes, Given, gives, parentIn, given}
 use Rattle.format.specs.RowTest.{markOf, isFilled, wellFormed, numberWritable, bodyWritable, keyWritable, writable, Tested, fine, faulty, testFrom}
 use Rattle.format.specs.RowTest.{tested}
 use Rattle.format.proofs.Tests.{on-bool, both, or-true}
+use Rattle.format.proofs.Tested.{parent, child-given}
 use Rattle.format.proofs.Ground.{Land, land, at, Done}
 use Rattle.format.proofs.Lands.{Within, classless, class, Meets, bare, named, long, Marked, Run, ends, goes, undefined}
 use Rattle.format.proofs.Lands.{null, boolean, integer, double, date, string, xmlDocument, xml, ints, uints, doubles, Form, number, text}
@@ -123,7 +123,9 @@ signed-more : (v : ℕ) → signedFits 28 v ≡ true → signedFits 31 v ≡ tru
 unfolding signedFits
 signed-more v h = on-bool (ltb v (2 ^ 28))
     (λ e. let l = ltb-true v (2 ^ 28) e in rw (lt-ltb v (2 ^ 31) (omega arith)))
-    (λ e. let l = leb-true (2 ^ 64 - 2 ^ 28) v (rw e at h) in rw (le-leb (2 ^ 64 - 2 ^ 31) v (omega arith)) (or-true (ltb v (2 ^ 31))))
+    (λ e. let (p, q) = both (leb (2 ^ 64 - 2 ^ 28) v) (ltb v (2 ^ 64)) (rw e at h) in
+    let l = leb-true (2 ^ 64 - 2 ^ 28) v p in
+    rw (le-leb (2 ^ 64 - 2 ^ 31) v (omega arith), q) (or-true (ltb v (2 ^ 31))))
 
 -- ---- a row and its children, in a table of which all rows are sound
 
@@ -278,84 +280,6 @@ module _ (R B : List ℕ) (u : ℕ) where
           marked = rw (is colKind (omega arith), is colCount (omega arith)) (run-marked p);
         }
 
--- ---- parents
-
-module _ (R : List ℕ) where
-  after-last : (n k : ℕ) → after R k (suc n) ≡ col R (after R k n) colEnd
-  unfolding after
-  after-last zero k = refl
-  after-last (suc n) k = after-last n (col R k colEnd)
-
-  -- what a row is given by the first q rows: nothing, where it is no child of them; or what its parent gives
-  data Giving (q i : ℕ) : Given → Type 0 where
-    orphan : ((p j : ℕ) → p < q → j < children R p → i ≢ after R (suc p) j) → Giving q i keyless
-    child : (p j : ℕ) → p < q → j < children R p → i ≡ after R (suc p) j → Giving q i (gives R p j)
-
-  giving-in : (p i : ℕ) (g : Given) → Giving p i g → (n k j : ℕ) → j + n ≡ children R p → k ≡ after R (suc p) j → ((l : ℕ) → l < j → i ≢ after R (suc p) l)
-      → Giving (suc p) i (givenIn g R p i k j n)
-  unfolding givenIn
-  giving-in p i g (orphan o) zero k j e f old = orphan (λ r l a b. elim (decLt r p) [
-    | yes c ↦ o r l c b
-    | no c ↦ (let q : r ≡ p = omega arith in let d : l < children R p = rw (← q) b in rw q (old l (omega arith)))
-  ])
-  giving-in p i g (child r l a b c) zero k j e f old = child r l (omega arith) b c
-  giving-in p i g h (suc n) k j e f old = on-bool (eqb k i)
-      (λ t. rw t (child p j (omega arith) (omega arith) (sym (eqb-true k i t) ∙ f)))
-      (λ t. rw t (giving-in p i g h n (col R k colEnd) (suc j) (omega arith) (ap (λ x. col R x colEnd) f ∙ sym (after-last j (suc p)))
-      (λ l a. elim (decLt l j) [
-        | yes c ↦ old l c
-        | no c ↦ (let q : l ≡ j = omega arith in λ d. eqb-false k i t (f ∙ sym (d ∙ ap (λ x. after R (suc p) x) q)))
-      ])))
-
-  giving : (q i : ℕ) → Giving q i (given R q i)
-  unfolding given after
-  giving zero i = orphan (λ p j a b. absurd (omega arith))
-  giving (suc p) i = giving-in p i (given R p i) (giving p i) (children R p) (suc p) 0 (omega arith) refl (λ l a. absurd (omega arith))
-
-  -- a row before `stop` lies in one of the children that close there
-  record In (k n x : ℕ) : Type 0 where
-    number : ℕ
-    few : number < n
-    behind : k ≤ after R k number
-    below : after R k number ≤ x
-    inside : x < col R (after R k number) colEnd
-
-  find : (stop n k x : ℕ) → closes R stop k n ≡ true → k ≤ x → x < stop → In k n x
-  unfolding closes after
-  find stop zero k x h a b = let e = eqb-true k stop h in absurd (omega arith)
-  find stop (suc n) k x h a b =
-      let p = both (ltb k (col R k colEnd) && leb (col R k colEnd) stop) (closes R stop (col R k colEnd) n) h in
-      let q = both (ltb k (col R k colEnd)) (leb (col R k colEnd) stop) (p .0) in
-      let l = ltb-true k (col R k colEnd) (q .0) in
-      elim (decLt x (col R k colEnd)) [
-        | yes c ↦ record { number = 0; few = omega arith; behind = omega arith; below = a; inside = c }
-        | no c ↦
-            (let r = find stop n (col R k colEnd) x (p .1) (omega arith) b in
-            let f = r .few in
-            let g = r .behind in
-            record { number = suc (r .number); few = omega arith; behind = omega arith; below = r .below; inside = r .inside })
-      ]
-
-  record Parent (x : ℕ) : Type 0 where
-    row : ℕ
-    number : ℕ
-    before : row < x
-    few : number < children R row
-    is : x ≡ after R (suc row) number
-
-  -- every row in a row is a child
-  parent : (fuel p x : ℕ) → x ≤ p + fuel → ((i : ℕ) → i < rowsIn R → closes R (col R i colEnd) (suc i) (children R i) ≡ true) → x < rowsIn R → p < x
-      → x < col R p colEnd → Parent x
-  parent zero p x f all r a b = absurd (omega arith)
-  parent (suc fuel) p x f all r a b =
-      let q = find (col R p colEnd) (children R p) (suc p) x (all p (omega arith)) a b in
-      let g = q .behind in
-      let l = q .below in
-      elim (decLt (after R (suc p) (q .number)) x) [
-        | yes c ↦ parent fuel (after R (suc p) (q .number)) x (omega arith) all r c (q .inside)
-        | no c ↦ record { row = p; number = q .number; before = a; few = q .few; is = omega arith }
-      ]
-
 -- ---- the test
 
 long-enough : (b : Bool) (n : ℕ) → (T b → 0 < n) → ltb 0 n || not b ≡ true
@@ -392,17 +316,23 @@ module _ {R B : List ℕ} {u : ℕ} (table : Table R B u) where
   ended : col R 0 colEnd ≡ rowsIn R
   ended = col-at R B u 0 colEnd (table .some) ∙ table .last
 
-  given-marked : (i : ℕ) → i < rowsIn R → Marked M (given R i i) i
-  given-marked i h = by (giving R i i)
+  -- every row has the key that it is given: the root has none
+  root-marked : Marked M (given R 0) 0
+  unfolding given parentIn
+  root-marked = record { mark = table .root; size = λ t. absurd t }
+
+  given-marked : (i : ℕ) → i < rowsIn R → Marked M (given R i) i
+  given-marked i h = elim (ℕ-discrete i 0) [
+    | yes e ↦ rw e root-marked
+    | no e ↦
+        (let r = parent R i 0 i (omega arith) (λ q l. kids q (omega arith) .closing) (omega arith) (rw ended h) in
+        by (r .row) (r .number) (r .before) (r .few) (r .is))
+  ]
     where
-      by : {g : Given} → Giving R i i g → Marked M g i
-      by (child p j a b c) = rw c ((kids p (omega arith)) .marked j b)
-      by (orphan o) = elim (ℕ-discrete i 0) [
-        | yes e ↦ record { mark = rw e (table .root); size = λ t. absurd t }
-        | no e ↦
-            (let r = parent R i 0 i (omega arith) (λ k l. (kids k l) .closing) h (omega arith) (rw ended h) in
-            absurd (o (r .row) (r .number) (r .before) (r .few) (r .is)))
-      ]
+      by : (p j : ℕ) → p < i → j < children R p → after R (suc p) j ≡ i → Marked M (given R i) i
+      by p j a b c =
+          rw (child-given R i (λ q l. kids q (omega arith) .closing) p j a b c)
+          (rw c at (kids p (omega arith) .marked j b))
 
   module _ (i : ℕ) (h : i < rowsIn R) where
     abbrev S : Sound M i
@@ -438,14 +368,14 @@ module _ {R B : List ℕ} {u : ℕ} (table : Table R B u) where
           le-leb (col R i colEnd) (rowsIn R) (rw (col-at R B u i colEnd h) (S .top)),
           (kids i h) .closing,
         )
-        (eq-eqb (S .key .mark) (markOf (given R i i)) (sym (S .row 1 (omega arith)) ∙ g .mark))
+        (eq-eqb (S .key .mark) (markOf (given R i)) (sym (S .row 1 (omega arith)) ∙ g .mark))
 
     key-writable : keyWritable R B i ≡ true
     unfolding keyWritable
     key-writable =
         let g = given-marked i h in
         rw (is-row i h S 2 (omega arith), is-row i h S 3 (omega arith), key-valid M (table .room) (S .meets))
-        (long-enough (isFilled (given R i i)) (S .key .size) (λ t. rw (S .row 3 (omega arith)) at (g .size t)))
+        (long-enough (isFilled (given R i)) (S .key .size) (λ t. rw (S .row 3 (omega arith)) at (g .size t)))
 
     body-writable : bodyWritable R B i (S .kind) ≡ true
     body-writable = same-body R (colsOf S) B i 0 (S .kind) alike ∙ (of-kind .body)

@@ -1,10 +1,9 @@
 -- A state as plain numbers is that state again: its frames, its work, and the rest of the head.
 use mathlib.Core.Path.{_≡_, refl, _∙_}
-use mathlib.Core.Bool.{_&&_}
 use mathlib.Core.List.{List, [], _∷_}
 use Prim.Native.Nat.{ℕ, zero, suc, _+_, _*_, _≤_, _<_}
 use native.Mathlib.Omega.{arith}
-use lib.Dec.{T, leb}
+use lib.Dec.{T}
 use lib.ListN.{length}
 use lib.Seq.{sets, length-sets}
 use Rattle.rows.specs.declared.Span.{Span}
@@ -16,10 +15,10 @@ use Rattle.format.specs.Step.{assoc, dynamics, Use, forString, forKey, f
 use Rattle.format.specs.Step.{integerWord, objectWord, sizeWord, textWord, doubleBits, dateBits, rawFlag, objectsFlag, dictionaryFlag, byteArray, rawVector}
 use Rattle.format.specs.Step.{Mode, atMarker, atWord, atNumber, atFlag, atText, atRaw, astray, State, wait, over, none}
 use Rattle.format.specs.Numbers.{Numbers, frameAt, framesOf, frameNumbers, laid, bodyPurpose, modeOf, useWork, workOf}
-use Rattle.format.specs.Numbers.{stateOf, numbersOf, memoryOf}
+use Rattle.format.specs.Numbers.{finishable, stateOf, numbersOf, memoryOf}
 use Rattle.format.proofs.Tests.{is-true}
 use Rattle.format.proofs.Lists.{kept-sets, sets-in, Kept}
-use Rattle.format.specs.Refusals as refusals
+use Rattle.format.specs.Refusals as no
 
 -- ---- frames
 
@@ -117,16 +116,16 @@ mode-of astray = refl
 
 -- ---- states
 
--- states that numbers can show: no more open values than may be, and refusals 1 to 12
+-- states that numbers can show: no more open values than may be, and what a reading can finish with and say
 abbrev pub Shown : State → Type 0
 Shown (wait x ts c m) = length ts ≤ openLimit
-Shown (over (finished c m)) = Unit
-Shown (over (refused number told place m)) = T (leb refusals.badLoan number && leb number refusals.lost)
+Shown (over (finished c m)) = T (finishable c)
+Shown (over (refused number told place m)) = T (no.sayable number told place)
 Shown (none m) = ⊥
 
 pub state-numbered : (n : Numbers) (s : State) → length (n .frames) ≡ openLimit * 6 → Shown s → stateOf (numbersOf n s) (memoryOf s) ≡ s
 unfolding stateOf numbersOf
 state-numbered n (wait x ts c m) l h = rw (mode-of x, frames-laid (n .frames) ts (omega arith))
-state-numbered n (over (finished c m)) l h = refl
-state-numbered n (over (refused number told place m)) l h = rw (is-true (leb refusals.badLoan number && leb number refusals.lost) h)
+state-numbered n (over (finished c m)) l h = rw (is-true (finishable c) h)
+state-numbered n (over (refused number told place m)) l h = rw (is-true (no.sayable number told place) h)
 state-numbered n (none m) l h = absurd h

@@ -25,7 +25,6 @@ Names B u N f (x ∷ xs) = Text B u (getD N (f * 2) 0) (getD N (f * 2 + 1) 0) x 
 pub record TraitRep (B : List ℕ) (u : ℕ) (N : List ℕ) (k : ℕ) (t : Trait) (x : Traits) : Type 0 where
   pub class : Text B u (t .begin) (t .size) (x .class)
   pub dynamic : t .dynamic ≡ x .dynamic
-  pub mark : t .dynamic ≤ 1
   pub count : t .count ≡ length (x .names)
   pub within : t .first + t .count ≤ k
   pub names : Names B u N (t .first) (x .names)
@@ -81,7 +80,6 @@ trait-ext L L′ e N N′ k k′ u h t x r =
     record {
       class = text-ext e _ _ (x .class) (r .class);
       dynamic = r .dynamic;
-      mark = r .mark;
       count = n;
       within = omega arith;
       names = names-ext L L′ e N N′ k h (x .names) (t .first) (omega arith) (r .names);

@@ -25,7 +25,7 @@ use Rattle.format.specs.Holds.{room, nothing, ofText}
 use Rattle.format.proofs.Tests.{clash}
 use Rattle.format.proofs.Holds.{Any, Goes, goes-ret, goes-more, goes-seq, goes-free, goes-end, goes-last, goes-byte, goes-lost}
 use Rattle.format.proofs.Enough.{goes-reserved, goes-stored, goes-text-end, goes-bodied}
-use Rattle.format.proofs.Words.{size-new}
+use Rattle.format.proofs.Own.{size-read}
 
 -- ---- numbers
 
@@ -127,4 +127,4 @@ module _ (at : Span → Reader Unit) (free : (s : Span) → Goes Any (at s) [] n
   pub goes-text : (t : List ℕ) → length t < 2 ^ 28 → Goes (λ (s : Span). s .size ≡ length t) (text at) (textBytes t) (ofText t)
   unfolding text
   goes-text t h =
-      goes-free _ (goes-word (length t * 2 + 1) (omega arith)) (λ x p. rw (p, size-new (length t)) (new-text t))
+      goes-free _ (goes-word (length t * 2 + 1) (omega arith)) (λ x p. rw (p, size-read (length t)) (new-text t))

@@ -1,11 +1,12 @@
 -- What the test of the rows says, where all of them pass: of each row by itself, and of the children of a row, one after the other.
-use mathlib.Core.Path.{_≡_, refl, _∙_}
+use mathlib.Core.Path.{_≡_, refl, ap, _∙_}
 use mathlib.Core.Bool.{Bool, true, false, cond, not, _&&_, _||_}
 use mathlib.Core.List.{List}
+use mathlib.Core.Option.{some}
 use Prim.Native.Nat.{ℕ, zero, suc, _+_, _-_, _<_, _≤_}
 use native.Mathlib.Omega.{arith}
 use native.Mathlib.Decide.{ℕ-discrete, decLt}
-use borrow.Author.Tests.{ltb-true, leb-true, eqb-true, eqb-false, eq-eqb, ne-eqb}
+use borrow.Author.Tests.{lt-ltb, le-ltb, ltb-true, leb-true, eqb-true, eqb-false, eq-eqb, ne-eqb}
 use lib.Dec.{leb, ltb, eqb}
 use lib.ListN.{length, length-take, length-drop}
 use Rattle.rows.specs.Memory.{colKind, colKeyMark, colKeyBegin, colKeySize, colBodyBegin, colBodySize}
@@ -15,14 +16,15 @@ use Rattle.utf8.specs.Grammar.{validText}
 use Rattle.format.specs.Unfold.{rowsIn, col, part, bodyOf, keyText, home, after}
 use Rattle.format.specs.RowTest as test
 use Rattle.format.specs.RowTest.{hasBody, hasClass, hasFlag, hasNumber, hasCount, hasCount2, spanFits, markFits, meant, columnsFit, valueFits}
-use Rattle.format.specs.RowTest.{children, closes, Given, gives, givenIn, given, markOf, isFilled, wellFormed, numberWritable, bodyWritable}
+use Rattle.format.specs.RowTest.{children, closes, gives, parentIn, numberIn, given, markOf, isFilled, wellFormed, numberWritable, bodyWritable}
 use Rattle.format.specs.RowTest.{keyWritable, writable, Tested, fine, testFrom, tested}
 use Rattle.format.proofs.Tests.{both, clash}
 use Rattle.format.proofs.Lists.{part-length}
 
 -- ---- a row by itself
 
-pub record Row (R B : List ℕ) (i : ℕ) : Type 0 where
+-- 13 passes
+pub record Formed (R B : List ℕ) (i : ℕ) : Type 0 where
   pub within : i < col R 0 colEnd
   pub low : kindUndefined ≤ col R i colKind
   pub high : col R i colKind ≤ kindReference
@@ -31,17 +33,22 @@ pub record Row (R B : List ℕ) (i : ℕ) : Type 0 where
   pub value : valueFits R i (col R i colKind) ≡ true
   pub end : col R i colEnd ≤ rowsIn R
   pub closed : closes R (col R i colEnd) (suc i) (children R i) ≡ true
-  pub mark : col R i colKeyMark ≡ markOf (given R i i)
+  pub mark : col R i colKeyMark ≡ markOf (given R i)
+
+-- and 14
+pub record Row (R B : List ℕ) (i : ℕ) : Type 0 where
+  pub formed : Formed R B i
   pub number : numberWritable R i (col R i colKind) ≡ true
   pub body : bodyWritable R B i (col R i colKind) ≡ true
   pub name : validText (keyText R B i) ≡ true
-  pub filled : (ltb 0 (col R i colKeySize) || not (isFilled (given R i i))) ≡ true
+  pub filled : (ltb 0 (col R i colKeySize) || not (isFilled (given R i))) ≡ true
 
 module _ (R B : List ℕ) where
-  row-of : (i : ℕ) → wellFormed R B i ≡ true → writable R B i ≡ true → Row R B i
-  unfolding wellFormed writable keyWritable
-  row-of i m u =
-      let (m₈, mark) = both _ (eqb (col R i colKeyMark) (markOf (given R i i))) m in
+  -- what the tests say of row i
+  pub formed-of : (i : ℕ) → wellFormed R B i ≡ true → Formed R B i
+  unfolding wellFormed
+  formed-of i m =
+      let (m₈, mark) = both _ (eqb (col R i colKeyMark) (markOf (given R i))) m in
       let (m₇, closed) = both _ (closes R (col R i colEnd) (suc i) (children R i)) m₈ in
       let (m₆, end) = both _ (leb (col R i colEnd) (rowsIn R)) m₇ in
       let (m₅, value) = both _ (valueFits R i (col R i colKind)) m₆ in
@@ -49,9 +56,6 @@ module _ (R B : List ℕ) where
       let (m₃, key) = both _ (markFits B (col R i colKeyMark) (col R i colKeyBegin) (col R i colKeySize)) m₄ in
       let (m₂, high) = both _ (leb (col R i colKind) kindReference) m₃ in
       let (within, low) = both (ltb i (col R 0 colEnd)) (leb kindUndefined (col R i colKind)) m₂ in
-      let (u₁, k) = both _ (validText (keyText R B i) && (ltb 0 (col R i colKeySize) || not (isFilled (given R i i)))) u in
-      let (number, body) = both (numberWritable R i (col R i colKind)) (bodyWritable R B i (col R i colKind)) u₁ in
-      let (name, filled) = both (validText (keyText R B i)) (ltb 0 (col R i colKeySize) || not (isFilled (given R i i))) k in
       record {
         within = ltb-true i (col R 0 colEnd) within;
         low = leb-true kindUndefined (col R i colKind) low;
@@ -61,12 +65,16 @@ module _ (R B : List ℕ) where
         value = value;
         end = leb-true (col R i colEnd) (rowsIn R) end;
         closed = closed;
-        mark = eqb-true (col R i colKeyMark) (markOf (given R i i)) mark;
-        number = number;
-        body = body;
-        name = name;
-        filled = filled;
+        mark = eqb-true (col R i colKeyMark) (markOf (given R i)) mark;
       }
+
+  row-of : (i : ℕ) → wellFormed R B i ≡ true → writable R B i ≡ true → Row R B i
+  unfolding writable keyWritable
+  row-of i m u =
+      let (u₁, k) = both _ (validText (keyText R B i) && (ltb 0 (col R i colKeySize) || not (isFilled (given R i)))) u in
+      let (number, body) = both (numberWritable R i (col R i colKind)) (bodyWritable R B i (col R i colKind)) u₁ in
+      let (name, filled) = both (validText (keyText R B i)) (ltb 0 (col R i colKeySize) || not (isFilled (given R i))) k in
+      record { formed = formed-of i m; number = number; body = body; name = name; filled = filled }
 
   first-row : (a b : Bool) (i : ℕ) (more : Tested) → cond a (cond b more (test.faulty 14 i)) (test.faulty 13 i) ≡ fine
       → (a ≡ true) × (b ≡ true) × (more ≡ fine)
@@ -123,7 +131,7 @@ module _ (B : List ℕ) where
 
 module _ (R B : List ℕ) (i : ℕ) (row : Row R B i) where
   pub key-length : length (keyText R B i) ≡ col R i colKeySize
-  key-length = mark-length B (col R i colKeyMark) (col R i colKeyBegin) (col R i colKeySize) (row .key)
+  key-length = mark-length B (col R i colKeyMark) (col R i colKeyBegin) (col R i colKeySize) (row .formed .key)
 
   -- the columns of the body, or of the class
   body-columns : cond (hasClass (col R i colKind)) (markFits B (col R i colClassMark) (col R i colBodyBegin) (col R i colBodySize))
@@ -131,7 +139,7 @@ module _ (R B : List ℕ) (i : ℕ) (row : Row R B i) where
       && spanFits B (col R i colBodyBegin) (col R i colBodySize)) ≡ true
   unfolding columnsFit
   body-columns =
-      let (e₅, count2) = both _ (meant (hasCount2 (col R i colKind)) (col R i colCount2)) (row .columns) in
+      let (e₅, count2) = both _ (meant (hasCount2 (col R i colKind)) (col R i colCount2)) (row .formed .columns) in
       let (e₄, count) = both _ (meant (hasCount (col R i colKind)) (col R i colCount)) e₅ in
       let (e₃, number) = both _ (meant (hasNumber (col R i colKind)) (col R i colNumber)) e₄ in
       let (e₂, most) = both _ (leb (col R i colFlag) 1) e₃ in
@@ -163,7 +171,7 @@ pub record Child (R : List ℕ) (p stop k j : ℕ) : Type 0 where
   pub inside : col R k colEnd ≤ stop
   pub row : k < rowsIn R
   -- it is given what p gives its child number j
-  pub gift : given R k k ≡ gives R p j
+  pub gift : given R k ≡ gives R p j
 
 -- n of them from row k on, the first number j
 pub data Walk (R : List ℕ) (p stop : ℕ) : ℕ → ℕ → ℕ → Type 0 where
@@ -198,19 +206,26 @@ module _ (R : List ℕ) where
   walk-long stop k zero e = omega (arith, eqb-true k stop e)
   walk-long stop k (suc n) e = let (a, b, c) = one-closes stop k n e in omega (arith, walk-long stop (col R k colEnd) n c)
 
-  -- children that end at row i or before don't have it
-  not-among : (before : Given) (p i stop k j n : ℕ) → closes R stop k n ≡ true → stop ≤ i → givenIn before R p i k j n ≡ before
-  unfolding givenIn
-  not-among before p i stop k j zero e l = refl
-  not-among before p i stop k j (suc n) e l =
+  -- the row after some children is at or behind the first
+  after-up : (stop k n m : ℕ) → closes R stop k n ≡ true → m ≤ n → k ≤ after R k m
+  unfolding after
+  after-up stop k n zero e l = omega arith
+  after-up stop k zero (suc m) e l = absurd (omega arith)
+  after-up stop k (suc n) (suc m) e l =
       let (a, b, c) = one-closes stop k n e in
-      rw (ne-eqb k i (λ q. omega arith)) (not-among before p i stop (col R k colEnd) (suc j) n c l)
+      omega (arith, after-up stop (col R k colEnd) n m c (omega arith))
+
+  -- one child more
+  pub after-one : (k m : ℕ) → after R k (suc m) ≡ col R (after R k m) colEnd
+  unfolding after
+  after-one k zero = refl
+  after-one k (suc m) = after-one (col R k colEnd) m
 
 -- the rows behind p and before k end at k or before
 abbrev pub Ends : List ℕ → ℕ → ℕ → Type 0
 Ends R p k = (q : ℕ) → p < q → q < k → col R q colEnd ≤ k
 
-pub one-more : (R : List ℕ) (p k : ℕ) → k < col R k colEnd → Ends R p k → Ends R k (col R k colEnd) → Ends R p (col R k colEnd)
+one-more : (R : List ℕ) (p k : ℕ) → k < col R k colEnd → Ends R p k → Ends R k (col R k colEnd) → Ends R p (col R k colEnd)
 one-more R p k l f g q a b =
     elim (decLt q k) [
       | yes h ↦ omega (arith, f q a h)
@@ -240,40 +255,106 @@ module _ (R : List ℕ) (most : ℕ) (closed : Shut R most) where
       walk-ends p (col R p colEnd) (λ k x y z. row-ends d k (omega arith) (omega arith) (omega arith)) (children R p) (suc p)
       (closed p h) (omega arith) (λ q x y. absurd (omega arith))
 
-  -- what row p gives to row k, the rows between leave to it
-  pub left : (p k m : ℕ) → k ≤ most → Ends R p k → p < m → m ≤ k → given R m k ≡ given R (suc p) k
-  unfolding given
-  left p k zero h f l g = absurd (omega arith)
-  left p k (suc m) h f l g =
-      elim (ℕ-discrete m p) [
-        | yes e ↦ rw e
-        | no e ↦
-            not-among R (given R m k) m k (col R m colEnd) (suc m) 0 (children R m) (closed m (omega arith)) (f m (omega arith) (omega arith))
-            ∙ left p k m h f (omega arith) (omega arith)
+-- ---- parents
+
+module _ (R : List ℕ) where
+  -- a row before `stop` lies in one of the children that close there
+  record In (k n x : ℕ) : Type 0 where
+    number : ℕ
+    few : number < n
+    behind : k ≤ after R k number
+    below : after R k number ≤ x
+    inside : x < col R (after R k number) colEnd
+
+  -- the child that it lies in
+  find : (stop n k x : ℕ) → closes R stop k n ≡ true → k ≤ x → x < stop → In k n x
+  unfolding closes after
+  find stop zero k x h a b = let e = eqb-true k stop h in absurd (omega arith)
+  find stop (suc n) k x h a b =
+      let (l, m, e) = one-closes R stop k n h in
+      elim (decLt x (col R k colEnd)) [
+        | yes c ↦ record { number = 0; few = omega arith; behind = omega arith; below = a; inside = c }
+        | no c ↦
+            (let r = find stop n (col R k colEnd) x e (omega arith) b in
+            let f = r .few in
+            let g = r .behind in
+            record { number = suc (r .number); few = omega arith; behind = omega arith; below = r .below; inside = r .inside })
       ]
 
-module _ (R B : List ℕ) (rows : (i : ℕ) → i < rowsIn R → Row R B i) where
-  all-closed : Shut R (rowsIn R)
-  all-closed i h = rows i h .closed
+  -- row x is a child of an earlier row
+  pub record Parent (x : ℕ) : Type 0 where
+    pub row : ℕ
+    pub number : ℕ
+    pub before : row < x
+    pub few : number < children R row
+    pub is : after R (suc row) number ≡ x
 
-  walk-from : (p stop k j n : ℕ) → stop ≤ rowsIn R → closes R stop k n ≡ true → p < k → Ends R p k
-      → ((i : ℕ) → k ≤ i → given R (suc p) i ≡ givenIn (given R p i) R p i k j n) → Walk R p stop k j n
-  unfolding givenIn
+  -- so is every row that lies before the end of an earlier one
+  pub parent : (fuel p x : ℕ) → x ≤ p + fuel → Shut R x → p < x → x < col R p colEnd → Parent x
+  parent zero p x f closed a b = absurd (omega arith)
+  parent (suc fuel) p x f closed a b =
+      let q = find (col R p colEnd) (children R p) (suc p) x (closed p a) a b in
+      let g = q .behind in
+      let l = q .below in
+      elim (decLt (after R (suc p) (q .number)) x) [
+        | yes c ↦ parent fuel (after R (suc p) (q .number)) x (omega arith) closed c (q .inside)
+        | no c ↦ record { row = p; number = q .number; before = a; few = q .few; is = omega arith }
+      ]
+
+-- row p is the parent of row k, where it ends past it and the rows between do not
+parent-last : (R : List ℕ) (p k m : ℕ) → k < col R p colEnd → Ends R p k → p < m → m ≤ k → parentIn R m k ≡ some p
+unfolding parentIn
+parent-last R p k zero h f l g = absurd (omega arith)
+parent-last R p k (suc m) h f l g =
+    elim (ℕ-discrete m p) [
+      | yes e ↦ rw (e, lt-ltb k (col R p colEnd) h)
+      | no e ↦ rw (le-ltb k (col R m colEnd) (f m (omega arith) (omega arith))) (parent-last R p k m h f (omega arith) (omega arith))
+    ]
+
+module _ (R : List ℕ) (i : ℕ) (closed : Shut R i) where
+  -- row i behind m of the n children of row p from row k on, the first of them number j
+  child-from : (p k j n m : ℕ) → closes R (col R p colEnd) k n ≡ true → p < k → Ends R p k
+      → ((x : ℕ) → k ≤ x → numberIn R x (suc p) 0 (children R p) ≡ numberIn R x k j n) → m < n → after R k m ≡ i → given R i ≡ gives R p (j + m)
+  unfolding numberIn after given
+  child-from p k j zero m e l f g h q = absurd (omega arith)
+  child-from p k j (suc n) zero e l f g h q =
+      let (a, b, c) = one-closes R (col R p colEnd) k n e in
+      let own : numberIn R i k j (suc n) ≡ j = rw (eq-eqb k i q) in
+      let s : j + 0 ≡ j = omega arith in
+      rw (s, parent-last R p i i (omega arith) (rw q at f) (omega arith) (omega arith), g i (omega arith) ∙ own)
+  child-from p k j (suc n) (suc m) e l f g h q =
+      let (a, b, c) = one-closes R (col R p colEnd) k n e in
+      let u = after-up R (col R p colEnd) (col R k colEnd) n m c (omega arith) in
+      let s : j + suc m ≡ suc j + m = omega arith in
+      rw s (child-from p (col R k colEnd) (suc j) n m c (omega arith)
+      (one-more R p k a f (row-ends R i closed i k (omega arith) (omega arith) (omega arith)))
+      (λ x y. rw (ne-eqb k x (λ z. omega arith)) at (g x (omega arith))) (omega arith) q)
+
+  -- child number j of row p is given what that gives to it
+  pub child-given : (p j : ℕ) → p < i → j < children R p → after R (suc p) j ≡ i → given R i ≡ gives R p j
+  child-given p j l h q =
+      let s : 0 + j ≡ j = omega arith in
+      rw s at (child-from p (suc p) 0 (children R p) j (closed p l) (omega arith) (λ x y z. absurd (omega arith)) (λ x y. refl) h q)
+
+module _ (R B : List ℕ) (rows : (i : ℕ) → i < rowsIn R → Formed R B i) where
+  walk-from : (p stop k j n : ℕ) → stop ≤ rowsIn R → closes R stop k n ≡ true → p < k → after R (suc p) j ≡ k → j + n ≡ children R p
+      → Walk R p stop k j n
   walk-from p stop k j zero w e l f g = done
   walk-from p stop k j (suc n) w e l f g =
       let (a, b, c) = one-closes R stop k n e in
-      let h : k < rowsIn R = omega arith in
-      let own : givenIn (given R p k) R p k k j (suc n) ≡ gives R p j = rw (eq-eqb k k refl) in
       next
-      (record { behind = l; before = a; inside = b; row = h; gift = left R (rowsIn R) all-closed p k k (omega arith) f l (omega arith) ∙ g k (omega arith) ∙ own })
-      (walk-from p stop (col R k colEnd) (suc j) n w c (omega arith)
-      (one-more R p k a f (row-ends R (rowsIn R) all-closed (rowsIn R) k (omega arith) h (omega arith)))
-      (λ i x. rw (ne-eqb k i (λ q. omega arith)) at (g i (omega arith))))
+      (record {
+        behind = l;
+        before = a;
+        inside = b;
+        row = omega arith;
+        gift = child-given R k (λ q y. rows q (omega arith) .closed) p j l (omega arith) f;
+      })
+      (walk-from p stop (col R k colEnd) (suc j) n w c (omega arith) (after-one R (suc p) j ∙ ap (λ (x : ℕ). col R x colEnd) f) (omega arith))
 
   pub walk-start : (p : ℕ) → p < rowsIn R → Walk R p (col R p colEnd) (suc p) 0 (children R p)
-  unfolding given
-  walk-start p h =
-      walk-from p (col R p colEnd) (suc p) 0 (children R p) (rows p h .end) (rows p h .closed) (omega arith) (λ q x y. absurd (omega arith)) (λ i x. refl)
+  unfolding after
+  walk-start p h = walk-from p (col R p colEnd) (suc p) 0 (children R p) (rows p h .end) (rows p h .closed) (omega arith) refl (omega arith)
 
 -- ---- what a row stands for
 
@@ -282,7 +363,7 @@ pub data Home (R : List ℕ) (i : ℕ) : ℕ → Type 0 where
   itself : Home R i i
   target : {j : ℕ} → j < i → col R j colEnd ≤ i → Home R i j
 
-module _ (R B : List ℕ) (rows : (i : ℕ) → i < rowsIn R → Row R B i) where
+module _ (R B : List ℕ) (rows : (i : ℕ) → i < rowsIn R → Formed R B i) where
   pub home-of : (i : ℕ) → i < rowsIn R → Home R i (home R i)
   unfolding home valueFits
   home-of i h = by (eqb (col R i colKind) kindReference) refl

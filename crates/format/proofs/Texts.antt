@@ -15,6 +15,7 @@ use Rattle.rows.specs.Memory.{Memory, messageLimit, span, noSpan}
 use Rattle.wire.specs.declared.Size.{Size}
 use Rattle.wire.specs.declared.Size.the-variants.{Old, New}
 use Rattle.wire.specs.Word.{sizeOf}
+use Rattle.format.proofs.Own.{size-is}
 use Rattle.wire.proofs.Octets.{Bytes}
 use Rattle.utf8.specs.Grammar.{validText, follow}
 use Rattle.utf8.specs.States.{stepOf, foldOf}
@@ -188,8 +189,8 @@ module _ (whole : List ℕ) (octets : Bytes whole) {J : ℕ → Memory → Curso
   new-text : (v : Bool) (c : Cursor) (sp : Span) (m₁ : Memory) (c₁ : Cursor) (s₁ : Tables) (b : ℕ) (ys : List ℕ) (bs : List ℕ)
       → sp .begin + sp .size ≤ c₁ .store → c .at ≤ c₁ .at → J (sp .begin) m₁ c₁ s₁ → part (m₁ .store) (sp .begin) (sp .size) ≡ b ∷ ys
       → Left whole (c₁ .at) bs → Agree whole (GotText c) (decided (onStrings (textEnd sp v) m₁ c₁) m₁ bs)
-      (bind (cond v (ret (b ∷ ys)) (std.fail 8 0) s₁ (c₁ .at) bs) std.entered)
-  unfolding textEnd std.entered
+      (bind (cond v (ret (b ∷ ys)) (std.fail 8 0) s₁ (c₁ .at) bs) std.keptText)
+  unfolding textEnd std.keptText
   new-text false c sp m₁ c₁ s₁ b ys bs w up j e l =
       let a = (lasting .sim j) .strings .fits in
       rw (le-ltb (length (m₁ .strings) / 2) (c₁ .strings) (omega arith)) (both (lit≤ tt) (lit≤ tt))
@@ -210,7 +211,7 @@ module _ (whole : List ℕ) (octets : Bytes whole) {J : ℕ → Memory → Curso
 
   no-text : (m : Memory) (c : Cursor) (s : Tables) (bs : List ℕ) → J (c .store) m c s → Left whole (c .at) bs
       → Agree whole (GotText c) (ok noSpan m c bs) (std.textOf (New zero) s (c .at) bs)
-  unfolding std.textOf std.chars std.bytes std.entered validText follow part
+  unfolding std.textOf std.chars std.bytes std.keptText validText follow part
   no-text m c s bs j l = fine {a = noSpan} l (record { inv = j; text = (refl, omega arith); up = omega arith })
 
   pub textOf-alike : (at : Span → Reader Unit) → Reserving at → (z : Size) (m : Memory) (c : Cursor) (s : Tables) (bs : List ℕ) → J (c .store) m c s
@@ -235,7 +236,7 @@ module _ (whole : List ℕ) (octets : Bytes whole) {J : ℕ → Memory → Curso
       bytes-there : (v : Bool) (n : ℕ) (c : Cursor) (m₁ : Memory) (c₁ : Cursor) (ys : List ℕ) (s₁ : Tables) (bs : List ℕ) → Left whole (c₁ .at) bs
           → GotBytes (c .store) (span (c .store) (suc n)) [] (suc n) (storeTo c (c .store + suc n)) m₁ c₁ ys s₁
           → Agree whole (GotText c) (decided (onStrings (textEnd (span (c .store) (suc n)) v) m₁ c₁) m₁ bs)
-          (bind (cond v (ret ys) (std.fail 8 0) s₁ (c₁ .at) bs) std.entered)
+          (bind (cond v (ret ys) (std.fail 8 0) s₁ (c₁ .at) bs) std.keptText)
       bytes-there v n c m₁ c₁ [] s₁ bs l g = let e = g .many in absurd (omega arith)
       bytes-there v n c m₁ c₁ (b ∷ ys) s₁ bs l g =
           let e = g .up in
@@ -249,5 +250,5 @@ module _ (whole : List ℕ) (octets : Bytes whole) {J : ℕ → Memory → Curso
       → Agree whole Q (bind (our.text at m c bs) f) (bind (std.text s (c .at) bs) g)
   unfolding our.text std.text
   text-then at r m c s bs f g j l k = rw (flat, flat) (word-then whole octets m s 3 0 c bs _ _ (omega arith) (lit< tt) l (λ w n bs l a i.
-      then _ _ (textOf-alike at r (sizeOf w) m (atTo c n) s bs (moved n j (omega arith) i) l) (λ sp m₁ c₁ xs s₁ bs l h. let e = h .up in
-      k sp m₁ c₁ xs s₁ bs l (h .inv) (h .text) (omega arith))))
+      rw (size-is w) (then _ _ (textOf-alike at r (sizeOf w) m (atTo c n) s bs (moved n j (omega arith) i) l) (λ sp m₁ c₁ xs s₁ bs l h. let e = h .up in
+      k sp m₁ c₁ xs s₁ bs l (h .inv) (h .text) (omega arith)))))

@@ -16,6 +16,7 @@ use Rattle.format.specs.Writing.{written, writing}
 use Rattle.format.specs.Holds.{canHold}
 use Rattle.format.proofs.Tests.{clash}
 use Rattle.format.proofs.Meaning.{usedRows, Accord, reads, refuses, limited, reading-means}
+use Rattle.format.proofs.Limits.{limit-most}
 use Rattle.format.proofs.Parts.{depth}
 use Rattle.format.proofs.Holds.{limit}
 use Rattle.format.proofs.Writable.{Writable}
@@ -44,14 +45,14 @@ is-limit n lo hi =
       ]
     ]
 
-pub returns : {bs : List ℕ} {e : Ended} {y : ResultOf Tables ℕ Tree} → Accord bs e y → Unlimited e
+pub returns : {m₀ : Memory} {bs : List ℕ} {e : Ended} {y : ResultOf Tables ℕ Tree} → Accord m₀ bs e y → Unlimited e
     → (t′ : Tree) (s′ : Tables) (k : ℕ) (rest′ : List ℕ) → y ≡ ok t′ s′ k rest′ → Returns e k t′
 returns (reads {c} {m} {t} {s} {rest} j w u v) free t′ s′ k rest′ q =
     let a : c .at ≡ k = cc in
     let b : t ≡ t′ = cc in
     record { cursor = c; memory = m; finishes = refl; takes = a; unfolds = v ∙ b }
 returns (refuses lo hi) free t′ s′ k rest′ q = clash cc
-returns (limited {n} lo hi) free t′ s′ k rest′ q = let l = is-limit n lo hi in clash cc
+returns (limited {n} l) free t′ s′ k rest′ q = let (lo, hi) = limit-most l in let e = is-limit n lo hi in clash cc
 
 -- a tree that can be written and does not nest too deep
 pub tree-trip : (t : Tree) (m : Memory) → canHold m t ≡ true → faultOf m ≡ 0 → Writable t → depth t ≤ openLimit → (rest : List ℕ) → Bytes (encode t ++ rest)

@@ -1,6 +1,6 @@
 -- The tree that tested rows unfold to can be written, however many references they have.
 use mathlib.Core.Path.{_≡_, refl, ap, _∙_}
-use mathlib.Core.Bool.{Bool, true, false, cond, not, _||_}
+use mathlib.Core.Bool.{Bool, true, false, cond, not, _&&_, _||_}
 use mathlib.Core.List.{List, [], _∷_}
 use mathlib.Core.Option.{none, some}
 use Prim.Native.Nat.{ℕ, zero, suc, _+_, _*_, _-_, _^_, _<_, _≤_}
@@ -20,11 +20,11 @@ use Rattle.utf8.specs.Grammar.{validText}
 use Rattle.format.specs.Standard.{Tree, array, object, objectVector, dictionary, count, countPairs, countEntries, isStar}
 use Rattle.format.specs.Unfold.{rowsIn, col, part, bodyOf, keyText, classText, flagSet, home, after, treesAt, pairsAt, entriesAt, node, treeAt}
 use Rattle.format.specs.Unfold.{unfolded}
-use Rattle.format.specs.RowTest.{hasClass, signedFits, valueFits, children, filled, gives, given, numberWritable, bodyWritable, tested, fine}
+use Rattle.format.specs.RowTest.{hasClass, signedFits, valueFits, children, fullKey, gives, given, numberWritable, bodyWritable, tested, fine}
 use Rattle.format.proofs.Tests.{both, clash}
 use Rattle.format.proofs.Writable.{IsText, IsKey, IsType, IfGiven, IsRaw, Writable, WritableTrees, WritablePairs, WritableMembers}
 use Rattle.format.proofs.Writable.{WritableEntries}
-use Rattle.format.proofs.Tested.{Row, tested-rows, part-short, key-length, body-length, class-mark}
+use Rattle.format.proofs.Tested.{Formed, Row, tested-rows, part-short, key-length, body-length, class-mark}
 use Rattle.format.proofs.Tested.{Walk, done, next, walk-start, walk-after, walk-long, home-row, kind-is}
 use Rattle.format.proofs.Loans.{lent}
 use Rattle.rows.specs.Kinds.{kindUndefined, kindNull, kindBoolean, kindDouble, kindString, kindXmlDocument, kindXml, kindByteArray, kindIntVector}
@@ -53,16 +53,22 @@ pub column-small : (n : ℕ) → signedFits 28 n ≡ true → mag (ofColumn n) <
 unfolding signedFits ofColumn
 column-small n e = by (ltb n (2 ^ 28)) refl e
   where
-    by : (t : Bool) → ltb n (2 ^ 28) ≡ t → (t || leb (2 ^ 64 - 2 ^ 28) n) ≡ true → mag (cond (ltb n (2 ^ 63)) (pos n) (negsuc (2 ^ 64 - suc n))) < 2 ^ 28
+    by : (t : Bool) → ltb n (2 ^ 28) ≡ t → (t || (leb (2 ^ 64 - 2 ^ 28) n && ltb n (2 ^ 64))) ≡ true
+        → mag (cond (ltb n (2 ^ 63)) (pos n) (negsuc (2 ^ 64 - suc n))) < 2 ^ 28
     by true l e =
         let h : n < 2 ^ 28 = ltb-true n (2 ^ 28) l in
         rw (lt-ltb n (2 ^ 63) (omega arith)) h
     by false l e =
-        let h : 2 ^ 64 - 2 ^ 28 ≤ n = leb-true (2 ^ 64 - 2 ^ 28) n e in
+        let h : 2 ^ 64 - 2 ^ 28 ≤ n = leb-true (2 ^ 64 - 2 ^ 28) n (both (leb (2 ^ 64 - 2 ^ 28) n) (ltb n (2 ^ 64)) e .0) in
         rw (le-ltb n (2 ^ 63) (omega arith)) (omega arith)
 
 module _ (R B : List ℕ) (few : rowsIn R ≤ rowsMost) (small : length B ≤ storeMost) (rows : (i : ℕ) → i < rowsIn R → Row R B i)
     (words : (i : ℕ) → getD R i 0 < 2 ^ 64) where
+  -- what 13 says of each
+  formed : (i : ℕ) → i < rowsIn R → Formed R B i
+  formed i h = rows i h .formed
+
+  -- a column has 64 bits
   word : (i c : ℕ) → col R i c < 2 ^ 64
   unfolding col
   word i c = by (ltb i (rowsIn R))
@@ -79,7 +85,7 @@ module _ (R B : List ℕ) (few : rowsIn R ≤ rowsMost) (small : length B ≤ st
   key-text : (i : ℕ) → i < rowsIn R → IsText (keyText R B i)
   key-text i h = record { valid = rows i h .name; short = short (col R i colKeyBegin) (col R i colKeySize) }
 
-  key-filled : (i : ℕ) → i < rowsIn R → given R i i ≡ filled → IsKey (keyText R B i)
+  key-filled : (i : ℕ) → i < rowsIn R → given R i ≡ fullKey → IsKey (keyText R B i)
   key-filled i h e =
       record { text = key-text i h; filled = by (ltb 0 (col R i colKeySize)) refl (rw e at (rows i h .filled)) }
     where
@@ -96,7 +102,7 @@ module _ (R B : List ℕ) (few : rowsIn R ≤ rowsMost) (small : length B ≤ st
     trees-fit (suc n) l done = absurd (omega arith)
     trees-fit (suc n) l (next {k = k} x w) = (good k (x .row), trees-fit n (omega arith) w)
 
-    pairs-fit : (n : ℕ) {c k j : ℕ} → n ≤ c → Walk R p stop k j c → ((i : ℕ) → j ≤ i → i < j + n → gives R p i ≡ filled)
+    pairs-fit : (n : ℕ) {c k j : ℕ} → n ≤ c → Walk R p stop k j c → ((i : ℕ) → j ≤ i → i < j + n → gives R p i ≡ fullKey)
         → WritablePairs (pairsAt f R B k n)
     unfolding pairsAt
     pairs-fit zero l w a = tt
@@ -169,10 +175,10 @@ module _ (R B : List ℕ) (few : rowsIn R ≤ rowsMost) (small : length B ≤ st
 
     -- its children, as many as c says
     walk : (c : ℕ) → children R i ≡ c → Walk R i (col R i colEnd) (suc i) 0 c
-    walk c e = rw e at (walk-start R B rows i h)
+    walk c e = rw e at (walk-start R B formed i h)
 
     counted : (c : ℕ) → children R i ≡ c → c < rowsMost
-    counted c e = omega (arith, walk-long R (col R i colEnd) (suc i) (children R i) (rows i h .closed), rows i h .end)
+    counted c e = omega (arith, walk-long R (col R i colEnd) (suc i) (children R i) (rows i h .formed .closed), rows i h .formed .end)
 
     array-fits : col R i colKind ≡ kindArray
         → Writable (array (pairsAt f R B (i + 1) (col R i colCount)) (treesAt f R (after R (i + 1) (col R i colCount)) (col R i colCount2)))
@@ -238,20 +244,20 @@ module _ (R B : List ℕ) (few : rowsIn R ≤ rowsMost) (small : length B ≤ st
         kind-is (col R i colKind) kindObject l (λ e. rw e (object-fits e)) λ l.
         kind-is (col R i colKind) kindXml l (λ e. rw e (text-fits (rw e at (rows i h .body)))) λ l.
         kind-is (col R i colKind) kindByteArray l (λ e. rw e (short (col R i colBodyBegin) (col R i colBodySize))) λ l.
-        kind-is (col R i colKind) kindIntVector l (λ e. rw e (raw-fits 4 (omega arith) (rw e at (rows i h .value)))) λ l.
-        kind-is (col R i colKind) kindUintVector l (λ e. rw e (raw-fits 4 (omega arith) (rw e at (rows i h .value)))) λ l.
-        kind-is (col R i colKind) kindDoubleVector l (λ e. rw e (raw-fits 8 (omega arith) (rw e at (rows i h .value)))) λ l.
+        kind-is (col R i colKind) kindIntVector l (λ e. rw e (raw-fits 4 (omega arith) (rw e at (rows i h .formed .value)))) λ l.
+        kind-is (col R i colKind) kindUintVector l (λ e. rw e (raw-fits 4 (omega arith) (rw e at (rows i h .formed .value)))) λ l.
+        kind-is (col R i colKind) kindDoubleVector l (λ e. rw e (raw-fits 8 (omega arith) (rw e at (rows i h .formed .value)))) λ l.
         kind-is (col R i colKind) kindObjectVector l (λ e. rw e (vector-fits e)) λ l.
         kind-is (col R i colKind) kindDictionary l (λ e. rw e (dictionary-fits e)) λ l.
         kind-is (col R i colKind) kindReference l (λ e. rw e tt) λ l.
-        absurd (omega (arith, rows i h .high))
+        absurd (omega (arith, rows i h .formed .high))
 
   -- ---- every row
 
   tree-fits : (levels i : ℕ) → i < rowsIn R → Writable (treeAt levels R B i)
   unfolding treeAt
   tree-fits zero i h = tt
-  tree-fits (suc levels) i h = node-fits (treeAt levels R B) (tree-fits levels) (home R i) (home-row R B rows i h)
+  tree-fits (suc levels) i h = node-fits (treeAt levels R B) (tree-fits levels) (home R i) (home-row R B formed i h)
 
 -- the tree of tested rows can be written; a number of a row has 64 bits
 pub unfolded-fits : (R B : List ℕ) → faultOf (memory R B [] [] [] []) ≡ 0 → tested R B ≡ fine → ((i : ℕ) → getD R i 0 < 2 ^ 64) → Writable (unfolded R B 0)
@@ -259,4 +265,4 @@ unfolding unfolded
 unfolded-fits R B f t words =
     let b = lent (memory R B [] [] [] []) f in
     let r = tested-rows R B t in
-    tree-fits R B (b .rows) (b .store) (r .1) words (rowsIn R * rowsIn R + 1) 0 (r .0)
+    tree-fits R B (b .rows) (b .store) (r .1) words (rowsIn R) 0 (r .0)

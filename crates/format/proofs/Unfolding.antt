@@ -1,4 +1,4 @@
--- Rows that stand for a tree unfold to it.
+-- Rows that stand for a tree unfold to it, by levels enough.
 use mathlib.Core.Path.{_≡_, refl, ap, _∙_}
 use mathlib.Core.Bool.{not}
 use mathlib.Core.List.{List, [], _∷_}
@@ -10,7 +10,7 @@ use lib.Dec.{eqb}
 use lib.ListN.{getD}
 use Rattle.rows.specs.Memory.{colKind, colEnd}
 use Rattle.wire.specs.Sign.{ofColumn}
-use Rattle.format.specs.Unfold.{rowsIn, part, home, after, treesAt, pairsAt, entriesAt, node, treeAt, unfolded}
+use Rattle.format.specs.Unfold.{rowsIn, part, home, after, treesAt, pairsAt, entriesAt, node, treeAt}
 use Rattle.format.specs.Unfold as flatly
 use Rattle.format.specs.Standard.{Plain, undefined, null, boolean, integer, double, string, xmlDocument, xml, byteArray, date, intVector, uintVector}
 use Rattle.format.specs.Standard.{doubleVector, Tree, plain, array, object, objectVector, dictionary, Trees, nil, cons, Pairs, noPairs, pair, Entries}
@@ -240,10 +240,10 @@ module _ (L : Land) (R B : List ℕ) (v : View L R B) where
         ∙ ap (λ z. entry z (F k₁) (entriesAt F R (at L k₁ colEnd) (countEntries es))) p
         ∙ ap (λ z. entry s z (entriesAt F R (at L k₁ colEnd) (countEntries es))) p₁ ∙ ap (entry s t) q
 
-  pub rep-unfolds : (t : Tree) (r : ℕ) → Rep t L r → unfolded R B r ≡ t
-  unfolding unfolded treeAt
-  rep-unfolds t r h =
+  -- to more levels than the square of the rows
+  pub rep-unfolds : (t : Tree) (r l : ℕ) → Rep t L r → L .used * L .used ≤ l → treeAt (suc l) R B r ≡ t
+  unfolding treeAt
+  rep-unfolds t r l h m =
       let u : r < L .used = (let a = h .0 .0 in let b = h .0 .1 in omega arith) in
       let e = (own-head t L (goal L r) (h .2)) .1 in
-      rw (v .many, add-one (L .used * L .used), home-is r u)
-      (own-tree t (goal L r) (L .used * L .used) (h .2) (omega (arith, mul-le-mul-right (L .used) e)))
+      rw (home-is r u) (own-tree t (goal L r) l (h .2) (omega (arith, mul-le-mul-right (L .used) e)))

@@ -1,10 +1,13 @@
 -- What of the loans is used: counts, rows and spans, and those that a mode works with; what was used before more was, is.
-use Prim.Native.Nat.{ℕ, _+_, _/_, _≤_, _<_}
+use Prim.Native.Nat.{ℕ, _+_, _*_, _-_, _/_, _^_, _≤_, _<_}
 use native.Mathlib.Omega.{arith}
 use Rattle.rows.specs.declared.Cursor.{Cursor}
 use Rattle.rows.specs.declared.Span.{Span}
 use Rattle.rows.specs.declared.Key.{Key}
 use Rattle.rows.specs.Memory.{rowWidth, spanWidth, traitWidth, span}
+use Rattle.wire.specs.U29.{wordMore, wordBits}
+use Rattle.wire.specs.Big.{numberMore, numberBits}
+use Rattle.utf8.specs.States.{textBroken}
 use Rattle.format.specs.declared.Lent.{Lent}
 use Rattle.format.specs.Decide.{classOf}
 use Rattle.format.specs.Step.{assoc, dynamics, Use, forString, forKey, forClass, forExternal, forName, forVector, Text, xmlText, tableText, rawRow}
@@ -17,7 +20,7 @@ Counts l c =
     (((((c .rows ≤ l .rows / rowWidth) × (c .store ≤ l .store)) × (c .strings ≤ l .strings / spanWidth)) × (c .objects ≤ l .objects))
     × (c .traits ≤ l .traits / traitWidth)) × (c .names ≤ l .names / spanWidth)
 
--- a row is used; a span; a key's span, with a mark that is one
+-- a row is used; a span; a key's span, if its mark isn't 0
 abbrev pub RowIn : ℕ → Cursor → Type 0
 RowIn row c = row < c .rows
 
@@ -25,20 +28,28 @@ abbrev pub SpanIn : Span → Cursor → Type 0
 SpanIn s c = s .begin + s .size ≤ c .store
 
 abbrev pub KeyIn : Key → Cursor → Type 0
-KeyIn k c = (k .mark ≤ 1) × SpanIn (span (k .begin) (k .size)) c
+KeyIn k c = 0 < k .mark → SpanIn (span (k .begin) (k .size)) c
 
 -- a span is used that has room for so many bytes
 abbrev pub Roomy : ℕ → Span → Cursor → Type 0
 Roomy n s c = SpanIn s c × (n ≤ s .size)
 
--- what a mode works with is used: rows, and spans with more room than is left to fill
+-- a span is used that has more room than is left to fill
+abbrev pub BodyIn : Span → ℕ → Cursor → Type 0
+BodyIn s left c = SpanIn s c × (left < s .size)
+
+-- so many bytes may come after the next one, and those before it gave no more than they can
+abbrev pub PartIn : ℕ → ℕ → ℕ → ℕ → Type 0
+PartIn most bits left part = (left ≤ most) × (part < 2 ^ (bits * (most - left)))
+
+-- what a mode holds lies in what is used
 abbrev pub UseIn : Use → Cursor → Type 0
 UseIn (forString row) c = RowIn row c
 UseIn (forKey (assoc row n done)) c = RowIn row c
 UseIn (forKey (dynamics row done)) c = RowIn row c
 UseIn (forClass row n y) c = RowIn row c
 UseIn forExternal c = Unit
-UseIn (forName row t n) c = RowIn row c × SpanIn (classOf t) c
+UseIn (forName row t n) c = (RowIn row c × SpanIn (classOf t) c) × (t .first ≤ c .names)
 UseIn (forVector row n) c = RowIn row c
 
 abbrev pub TextIn : Text → Cursor → Type 0
@@ -62,19 +73,81 @@ FlagIn (dictionaryFlag row n) c = RowIn row c
 
 abbrev pub ModeIn : Mode → Cursor → Type 0
 ModeIn (atMarker k) c = KeyIn k c
-ModeIn (atWord w left part) c = WordIn w c
-ModeIn (atNumber d left part) c = NumberIn d c
+ModeIn (atWord w left part) c = WordIn w c × PartIn wordMore wordBits left part
+ModeIn (atNumber d left part) c = NumberIn d c × PartIn numberMore numberBits left part
 ModeIn (atFlag f) c = FlagIn f c
-ModeIn (atText x s left test) c = (TextIn x c × SpanIn s c) × (left < s .size)
-ModeIn (atRaw r s left) c = (RowIn (rawRow r) c × SpanIn s c) × (left < s .size)
+ModeIn (atText x s left test) c = (TextIn x c × BodyIn s left c) × (test ≤ textBroken)
+ModeIn (atRaw r s left) c = RowIn (rawRow r) c × BodyIn s left c
 ModeIn astray c = ⊥
+
+-- the same in two: what it works with; and its part of a number, which only bytes keep small
+abbrev pub WorkIn : Mode → Cursor → Type 0
+WorkIn (atMarker k) c = KeyIn k c
+WorkIn (atWord w left part) c = WordIn w c
+WorkIn (atNumber d left part) c = NumberIn d c
+WorkIn (atFlag f) c = FlagIn f c
+WorkIn (atText x s left test) c = (TextIn x c × BodyIn s left c) × (test ≤ textBroken)
+WorkIn (atRaw r s left) c = RowIn (rawRow r) c × BodyIn s left c
+WorkIn astray c = ⊥
+
+abbrev pub SmallIn : Mode → Type 0
+SmallIn (atMarker k) = Unit
+SmallIn (atWord w left part) = PartIn wordMore wordBits left part
+SmallIn (atNumber d left part) = PartIn numberMore numberBits left part
+SmallIn (atFlag f) = Unit
+SmallIn (atText x s left test) = Unit
+SmallIn (atRaw r s left) = Unit
+SmallIn astray = Unit
+
+-- both are the whole; the whole is both
+pub mode-in : (x : Mode) (c : Cursor) → WorkIn x c → SmallIn x → ModeIn x c
+mode-in (atMarker k) c h p = h
+mode-in (atWord w left part) c h p = (h, p)
+mode-in (atNumber d left part) c h p = (h, p)
+mode-in (atFlag f) c h p = h
+mode-in (atText x s left test) c h p = h
+mode-in (atRaw r s left) c h p = h
+mode-in astray c h p = h
+
+pub mode-parts : (x : Mode) (c : Cursor) → ModeIn x c → WorkIn x c × SmallIn x
+mode-parts (atMarker k) c h = (h, tt)
+mode-parts (atWord w left part) c h = h
+mode-parts (atNumber d left part) c h = h
+mode-parts (atFlag f) c h = (h, tt)
+mode-parts (atText x s left test) c h = (h, tt)
+mode-parts (atRaw r s left) c h = (h, tt)
+mode-parts astray c h = (h, tt)
+
+-- pairs done are below the used rows
+abbrev pub PairsUsed : Use → Cursor → Type 0
+PairsUsed (forString row) c = Unit
+PairsUsed (forKey (assoc row n done)) c = done < c .rows
+PairsUsed (forKey (dynamics row done)) c = done < c .rows
+PairsUsed (forClass row n y) c = Unit
+PairsUsed forExternal c = Unit
+PairsUsed (forName row t n) c = Unit
+PairsUsed (forVector row n) c = Unit
+
+abbrev pub PairsIn : Mode → Cursor → Type 0
+PairsIn (atMarker k) c = Unit
+PairsIn (atWord (integerWord row) left part) c = Unit
+PairsIn (atWord (objectWord row) left part) c = Unit
+PairsIn (atWord (sizeWord row body) left part) c = Unit
+PairsIn (atWord (textWord u) left part) c = PairsUsed u c
+PairsIn (atNumber d left part) c = Unit
+PairsIn (atFlag f) c = Unit
+PairsIn (atText (xmlText row) s left test) c = Unit
+PairsIn (atText (tableText u) s left test) c = PairsUsed u c
+PairsIn (atRaw r s left) c = Unit
+PairsIn astray c = Unit
 
 -- ---- more is used
 
--- rows and spans that were used are used
+-- rows, spans and names that were used are used
 pub record Grows (c d : Cursor) : Type 0 where
   pub rows : c .rows ≤ d .rows
   pub store : c .store ≤ d .store
+  pub names : c .names ≤ d .names
 
 pub grows-same : (c : Cursor) → Grows c c
 grows-same c = omega arith
@@ -89,13 +162,17 @@ module _ {c d : Cursor} (g : Grows c d) where
   pub span-up : (s : Span) → SpanIn s c → SpanIn s d
   span-up s h = omega arith
 
+  -- a first name in the used names stays in them
+  pub names-up : (n : ℕ) → n ≤ c .names → n ≤ d .names
+  names-up n h = omega arith
+
   pub use-up : (u : Use) → UseIn u c → UseIn u d
   use-up (forString row) h = row-up row h
   use-up (forKey (assoc row n done)) h = row-up row h
   use-up (forKey (dynamics row done)) h = row-up row h
   use-up (forClass row n y) h = row-up row h
   use-up forExternal h = tt
-  use-up (forName row t n) (h, k) = (row-up row h, span-up (classOf t) k)
+  use-up (forName row t n) ((h, k), f) = ((row-up row h, span-up (classOf t) k), names-up (t .first) f)
   use-up (forVector row n) h = row-up row h
 
   pub text-up : (x : Text) → TextIn x c → TextIn x d

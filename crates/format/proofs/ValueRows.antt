@@ -12,7 +12,7 @@ use Rattle.rows.specs.declared.Cursor.{Cursor}
 use Rattle.rows.specs.declared.Span.{Span}
 use Rattle.rows.specs.declared.Key.{Key}
 use Rattle.rows.specs.declared.Trait.{Trait}
-use Rattle.rows.specs.Memory.{Memory, messageLimit, noKey, noSpan, span, cell, put, colNumber, colEnd}
+use Rattle.rows.specs.Memory.{Memory, noKey, noSpan, span, cell, put, colNumber, colEnd}
 use Rattle.wire.specs.declared.Size.{Size}
 use Rattle.wire.specs.declared.Size.the-variants.{Old, New}
 use Rattle.wire.specs.declared.Shape.{Shape}
@@ -27,7 +27,7 @@ use Rattle.format.specs.Decide.{Width, four, eight, widthOf, entered, re
 use Rattle.format.specs.Reading as reading
 use Rattle.format.specs.Reading.{_>>=_, _>>_, Values, decided, by, ret, entries}
 use Rattle.format.specs.Unfold.{part}
-use Rattle.format.specs.RowTest.{isObject, Given, filled}
+use Rattle.format.specs.RowTest.{isObject, Given, fullKey}
 use Rattle.format.proofs.Tests.{on-bool}
 use Rattle.format.proofs.Memories.{withRows, atTo}
 use Rattle.format.proofs.Ground.{done-ext, ext-same, ext-trans, landOf}
@@ -182,7 +182,7 @@ module _ (g : Given) (k : Key) (m₀ : Memory) (c₀ : Cursor) (ok₀ : Ok m₀ 
         → Post Done₀ (reading.newOf value (c₀ .rows) decide.array n m c bs)
     unfolding reading.newOf
     array-post n m c bs x one = post-then _ _ (post-then _ _ (
-        post-map _ (pairs-post value reads m₀ c₀ (fresh kindArray) (landOf m c) (c .rows) 9 (omega arith) (omega arith) messageLimit 0 m c bs (loop-begin x))
+        post-map _ (pairs-post value reads m₀ c₀ (fresh kindArray) (landOf m c) (c .rows) 9 (omega arith) (omega arith) m c bs (loop-begin x))
         (λ u m₁ c₁ p bs.
         post-map _ (items-post value reads m₀ c₀ (set (fresh kindArray) 9 (p .0)) (landOf m₁ c₁) (c₁ .rows) 10 (omega arith) (omega arith) n m₁ c₁ bs
         (loop-begin (p .1 .stage)))
@@ -239,10 +239,10 @@ module _ (g : Given) (k : Key) (m₀ : Memory) (c₀ : Cursor) (ok₀ : Ok m₀ 
     -- ---- objects
 
     dynamics-post : (cs : List ℕ) (y : ℕ) (m : Memory) (c : Cursor) (bs : List ℕ) → Stage m₀ c₀ (set cs 10 0) m c
-        → Post (λ u m′ c′. (x : ℕ) × Loop (landOf m c) filled (c .rows) m₀ c₀ (set cs 10 x) (1 * x) m′ c′) (reading.dynamics value (c₀ .rows) y m c bs)
+        → Post (λ u m′ c′. (x : ℕ) × Loop (landOf m c) fullKey (c .rows) m₀ c₀ (set cs 10 x) (1 * x) m′ c′) (reading.dynamics value (c₀ .rows) y m c bs)
     unfolding reading.dynamics
     dynamics-post cs zero m c bs x = gets (0, loop-begin x)
-    dynamics-post cs (suc y) m c bs x = pairs-post value reads m₀ c₀ cs (landOf m c) (c .rows) 10 (omega arith) (omega arith) messageLimit 0 m c bs
+    dynamics-post cs (suc y) m c bs x = pairs-post value reads m₀ c₀ cs (landOf m c) (c .rows) 10 (omega arith) (omega arith) m c bs
         (loop-begin x)
 
     members-post : {mark b z : ℕ} (t : Trait) (m : Memory) (c : Cursor) (bs : List ℕ) → Stage m₀ c₀ (of 10 (b ∷ z ∷ mark ∷ 0 ∷ 0 ∷ 0 ∷ 0 ∷ 0 ∷ [])) m c

@@ -14,6 +14,7 @@ use Rattle.rows.specs.Memory.{Memory, messageLimit}
 use Rattle.wire.specs.declared.Size.{Size}
 use Rattle.wire.specs.declared.Size.the-variants.{Old, New}
 use Rattle.wire.specs.Word.{sizeOf, shapeOf}
+use Rattle.format.proofs.Own.{size-is, object-is}
 use Rattle.wire.proofs.Octets.{Bytes}
 use Rattle.format.specs.Decide.{Body, kindOf, newRow, marker, objectsTo}
 use Rattle.format.specs.Decide as dec
@@ -28,7 +29,7 @@ use Rattle.format.proofs.Stage.{Val, Stage, stage-at}
 use Rattle.format.proofs.Texts.{limit}
 use Rattle.format.proofs.Ends.{NewAlike, opening, rowed, rowedTo, begins, leaf-val, enter-then, refer-alike}
 use Rattle.format.proofs.Plains.{integer-alike, double-alike, string-alike, date-alike, xml-alike, bytes-alike, raw-alike}
-use Rattle.format.proofs.Holders.{shape-marked, array-alike, vector-alike, dictionary-alike, object-alike}
+use Rattle.format.proofs.Holders.{array-alike, vector-alike, dictionary-alike, object-alike}
 use Rattle.rows.specs.Memory.{rowWidth}
 use Rattle.rows.specs.Kinds.{kindInteger, kindDouble, kindString, kindXmlDocument, kindDate, kindArray, kindObject, kindXml, kindByteArray, kindIntVector}
 use Rattle.rows.specs.Kinds.{kindUintVector, kindDoubleVector, kindObjectVector, kindDictionary}
@@ -64,19 +65,19 @@ module _ (whole : List ℕ) (octets : Bytes whole) (value : Values) (tree : Std 
       (std.marked tree f b (dec.sized body) s (suc (c .at)) bs)
   unfolding our.marked std.marked
   sized-alike b body new x₁ = word-then whole octets _ s 3 0 (rowedTo c) bs _ _ (omega arith) (lit< tt) l (λ z n bs l a i.
-      size-alike b body (sizeOf z) _ (atTo (rowedTo c) n) bs new (stage-at x₁ n (omega arith) i) (omega arith) (omega arith) (omega arith) l)
+      rw (size-is z) (size-alike b body (sizeOf z) _ (atTo (rowedTo c) n) bs new (stage-at x₁ n (omega arith) i) (omega arith) (omega arith) (omega arith) l))
 
   objects : Stage false m c (opening 10 k) (c .store) (rowed m c (opening 10 k)) (rowedTo c) s
       → Agree whole (Val m c k) (our.marked value (c .rows) dec.object (rowed m c (opening 10 k)) (rowedTo c) bs)
       (std.marked tree f 10 dec.object s (suc (c .at)) bs)
   unfolding our.marked std.marked
   objects x₁ = word-then whole octets _ s 3 0 (rowedTo c) bs _ _ (omega arith) (lit< tt) l (λ z n bs l a i.
-      object-alike whole octets value tree f fuel low ih k (shapeOf z) _ (atTo (rowedTo c) n) s bs (shape-marked z) (stage-at x₁ n (omega arith) i)
-      (omega arith) (omega arith) (omega arith) l)
+      rw (object-is z) (object-alike whole octets value tree f fuel low ih k (shapeOf z) _ (atTo (rowedTo c) n) s bs (stage-at x₁ n (omega arith) i)
+      (omega arith) (omega arith) (omega arith) l))
 
   pub by-marker : (b : ℕ) → b ≤ 17 → Agree whole (Val m c k) (our.marked value (c .rows) (kindOf b) (rowed m c (newRow b k (c .rows))) (rowedTo c) bs)
-      (std.marked tree f b (kindOf b) s (suc (c .at)) bs)
-  unfolding kindOf newRow our.marked std.marked
+      (std.marked tree f b (std.follows b) s (suc (c .at)) bs)
+  unfolding kindOf std.follows newRow our.marked std.marked
   by-marker zero h = fine l (leaf-val x i q k (newRow 0 k (c .rows)) undefined refl refl refl refl refl refl)
   by-marker (suc zero) h = fine l (leaf-val x i q k (newRow 1 k (c .rows)) null refl refl refl refl refl refl)
   by-marker (suc (suc zero)) h = fine l (leaf-val x i q k (newRow 2 k (c .rows)) (boolean false) refl refl refl refl refl refl)

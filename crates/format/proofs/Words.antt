@@ -1,7 +1,7 @@
 -- The standard reads a U29 as wire defines it; and what the words that are written say.
 use mathlib.Core.Path.{_≡_, refl, ap, sym, _∙_}
 use mathlib.Core.List.{List, [], _∷_, _++_}
-use Prim.Native.Nat.{ℕ, zero, suc, _+_, _*_, _-_, _^_, _/_, _<_}
+use Prim.Native.Nat.{ℕ, zero, suc, _+_, _*_, _-_, _^_, _/_, _<_, _%_}
 use native.Mathlib.Omega.{arith}
 use native.Mathlib.Numerals.{add-one}
 use borrow.Author.Tests.{le-ltb, lt-ltb, eq-eqb, ne-eqb}
@@ -13,7 +13,7 @@ use Rattle.wire.specs.declared.Read.the-variants.{Value}
 use Rattle.wire.specs.declared.Size.the-variants.{New}
 use Rattle.wire.specs.declared.Shape.the-variants.{Inline}
 use Rattle.wire.specs.U29.{restOf, goOn, u29}
-use Rattle.wire.specs.Word.{bit, sizeOf, shapeOf}
+use Rattle.format.specs.Standard.{sizeSays, objectSays}
 use Rattle.wire.proofs.U29.{Step, step, astray, fourth, last, more}
 use Rattle.wire.proofs.Round.{u29-round}
 use Rattle.format.specs.Reading.{ok}
@@ -63,16 +63,16 @@ word-round n h s p rest =
     let e : length (u29 n) ≡ w .size = omega (arith, w .place) in
     w .reads s p ∙ rw (← e, drop-append-seam (u29 n) rest)
 
-pub size-new : (n : ℕ) → sizeOf (n * 2 + 1) ≡ New n
-unfolding sizeOf
-size-new n = rw (ne-eqb (bit 0 (n * 2 + 1)) 0 (λ z. omega arith)) (ap New (omega arith))
+pub size-new : (n : ℕ) → sizeSays (n * 2 + 1) ≡ New n
+unfolding sizeSays
+size-new n = rw (ne-eqb ((n * 2 + 1) % 2) 0 (λ z. omega arith)) (ap New (omega arith))
 
-shape-inline : (n dynamic w : ℕ) → dynamic < 2 → w ≡ n * 16 + (dynamic * 8 + 3) → shapeOf w ≡ Inline n dynamic
-unfolding shapeOf
+shape-inline : (n dynamic w : ℕ) → dynamic < 2 → w ≡ n * 16 + (dynamic * 8 + 3) → objectSays w ≡ Inline n dynamic
+unfolding objectSays
 shape-inline n dynamic w h e =
-    let a : w / 2 ^ 4 ≡ n = omega arith in
-    let b : bit 3 w ≡ dynamic = omega arith in
-    rw (ne-eqb (bit 0 w) 0 (λ z. omega arith), ne-eqb (bit 1 w) 0 (λ z. omega arith), eq-eqb (bit 2 w) 0 (omega arith), a, b)
+    let a : w / 16 ≡ n = omega arith in
+    let b : w / 8 % 2 ≡ dynamic = omega arith in
+    rw (ne-eqb (w % 2) 0 (λ z. omega arith), ne-eqb (w % 4) 1 (λ z. omega arith), ne-eqb (w % 8) 7 (λ z. omega arith), a, b)
 
 -- the word of an object: whether it has dynamic members, and how many sealed ones
 abbrev pub dynamicOf : Pairs → ℕ
@@ -88,7 +88,7 @@ dynamic-two : (ys : Pairs) → dynamicOf ys < 2
 dynamic-two noPairs = lit< tt
 dynamic-two (pair x t ps) = lit< tt
 
-pub trait-shape : (xs ys : Pairs) → shapeOf (traitWord xs ys) ≡ Inline (countPairs xs) (dynamicOf ys)
+pub trait-shape : (xs ys : Pairs) → objectSays (traitWord xs ys) ≡ Inline (countPairs xs) (dynamicOf ys)
 trait-shape xs ys = shape-inline (countPairs xs) (dynamicOf ys) (traitWord xs ys) (dynamic-two ys) (trait-word xs ys)
 
 pub trait-below : (xs ys : Pairs) → countPairs xs < 2 ^ 25 → traitWord xs ys < 2 ^ 29

@@ -10,7 +10,7 @@ use Rattle.rows.specs.declared.Cursor.{Cursor}
 use Rattle.rows.specs.declared.Span.{Span}
 use Rattle.rows.specs.declared.Key.{Key}
 use Rattle.rows.specs.declared.Trait.{Trait}
-use Rattle.rows.specs.Memory.{Memory, memory, cursor, messageLimit, rowWidth, spanWidth, traitWidth, colKind, colBodyBegin, colBodySize, colClassMark}
+use Rattle.rows.specs.Memory.{Memory, memory, cursor, rowWidth, spanWidth, traitWidth, colKind, colBodyBegin, colBodySize, colClassMark}
 use Rattle.rows.specs.Memory.{colFlag, colNumber, colCount, colEnd, cell, put, rowUsed, span, noSpan, keyOf, spanAt, spanUsed}
 use Rattle.rows.specs.Kinds.{kindReference}
 use Rattle.wire.specs.declared.Date.{Date}
@@ -19,6 +19,8 @@ use Rattle.wire.specs.Sign.{integerOf, columnOf}
 use Rattle.wire.specs.Date.{dateOf}
 use Rattle.format.specs.Refusals as no
 use Rattle.rows.specs.Memory.{loanRows, loanStore, loanStrings, loanObjects, loanTraits, loanNames}
+pub use Rattle.format.specs.Bodies.{Width, four, eight, widthOf, Body, xml, date, array, bytes, raw, objects, dictionary}
+pub use Rattle.format.specs.Bodies.{Kind, leaf, integer, double, string, object, sized}
 
 -- refused: number, told value and place; or a result, the loans that it wrote, and the cursor
 pub data Out (S A : Type 0) : Type 0 where
@@ -54,24 +56,6 @@ abbrev pub namesTo : Cursor → ℕ → Cursor
 namesTo c n = cursor (c .at) (c .rows) (c .store) (c .strings) (c .objects) (c .traits) n
 
 -- ---- markers
-
--- the bytes of a raw vector's entry
-pub data Width : Type 0 where
-  four eight : Width
-
-abbrev pub widthOf : Width → ℕ
-widthOf four = 4
-widthOf eight = 8
-
--- what the size word of a value is of
-pub data Body : Type 0 where
-  xml date array bytes objects dictionary : Body
-  raw : Width → Body
-
--- what follows a marker: nothing; a U29; eight bytes; a string; an object word; or a size word
-pub data Kind : Type 0 where
-  leaf integer double string object : Kind
-  sized : Body → Kind
 
 unfoldable pub kindOf : ℕ → Kind
 kindOf b =
@@ -146,9 +130,13 @@ weak b = cond (eqb b 1) 1 0
 unfoldable pub flagged : ℕ → ℕ → List ℕ → Cursor → Out (List ℕ) Unit
 flagged row flag R c = inRow row (λ R. put R row colFlag flag) R c
 
--- an entry is finished, after `done` others; no reading has more of them than a message has bytes
+-- an entry is finished, after `done` others, each of which has a row of its own (12)
 unfoldable pub counted : ℕ → ℕ → ℕ → List ℕ → Cursor → Out (List ℕ) Unit
-counted row col done R c = cond (leb messageLimit done) lost (inRow row (λ R. put R row col (done + 1)) R c)
+counted row col done R c = cond (leb (c .rows) done) lost (inRow row (λ R. put R row col (done + 1)) R c)
+
+-- a dictionary's key is finished, after `done` pairs; its value is next (12)
+unfoldable pub keyEnd : ℕ → ℕ → List ℕ → Cursor → Out Unit Unit
+keyEnd row done R c = cond (leb (c .rows) done) lost (cond (rowUsed R c row) (give tt tt c) lost)
 
 -- n bytes of a raw vector are still to come
 unfoldable pub grown : ℕ → Width → Span → ℕ → List ℕ → Cursor → Out (List ℕ) Unit
@@ -224,9 +212,9 @@ traitAt U i =
       count = getD U (i * traitWidth + 4) 0;
     }
 
--- its class and its names are used, and its mark is a mark
+-- its class and its names are used
 unfoldable pub traitHolds : Cursor → Trait → Bool
-traitHolds c t = spanUsed c (classOf t) && leb (t .dynamic) 1 && leb (t .first + t .count) (c .names)
+traitHolds c t = spanUsed c (classOf t) && leb (t .first + t .count) (c .names)
 
 -- trait i (12; 4; 12 of what it says)
 unfoldable pub oldTrait : ℕ → List ℕ → Cursor → Out Unit Trait

@@ -1,10 +1,12 @@
 pub mod Refusals
 pub mod Codes
+pub mod Readers
+pub mod Bodies
+pub mod Standard
 pub mod Decide
 pub mod Reading
 pub mod Step
 pub mod Numbers
-pub mod Standard
 pub mod Unfold
 pub mod RowTest
 pub mod Writing

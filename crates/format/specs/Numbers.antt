@@ -1,7 +1,7 @@
 -- A state as plain numbers, of which any are a state: how they are read, written back, and stepped. What a mode has no use for is not read, and written as 0.
-use mathlib.Core.Bool.{Bool, true, false, cond, not, _&&_}
+use mathlib.Core.Bool.{Bool, true, false, cond, not, _&&_, _||_}
 use mathlib.Core.List.{List, [], _∷_}
-use Prim.Native.Nat.{ℕ, zero, suc, _+_, _*_, _/_}
+use Prim.Native.Nat.{ℕ, zero, suc, _+_, _*_, _-_, _/_, _^_}
 use lib.Dec.{leb, ltb, eqb}
 use lib.ListN.{length, getD}
 use lib.Seq.{sets}
@@ -9,7 +9,11 @@ use Rattle.rows.specs.declared.Cursor.{Cursor}
 use Rattle.rows.specs.declared.Span.{Span}
 use Rattle.rows.specs.declared.Key.{Key}
 use Rattle.rows.specs.declared.Trait.{Trait}
-use Rattle.rows.specs.Memory.{Memory, fresh, faultOf, messageLimit, openLimit, openMost, rowWidth, spanWidth, traitWidth, span, noSpan, spanUsed}
+use Rattle.rows.specs.Memory.{Memory, fresh, faultOf, messageLimit, openLimit, openMost, rowsMost, storeMost, rowWidth, spanWidth, traitWidth, span}
+use Rattle.rows.specs.Memory.{noSpan, spanUsed}
+use Rattle.wire.specs.U29.{wordMore, wordBits}
+use Rattle.wire.specs.Big.{numberMore, numberBits}
+use Rattle.utf8.specs.States.{textBroken}
 use Rattle.format.specs.Refusals as no
 use Rattle.format.specs.Codes.{statusWaiting, statusFinished, statusRefused, modeMarker, modeWord, modeNumber, modeFlag, modeText}
 use Rattle.format.specs.Codes.{modeRaw, purposeInteger, purposeDouble, purposeObject, purposeDateBits, purposeXml, purposeDate, purposeArray}
@@ -167,12 +171,16 @@ workOf astray = noWork
 
 -- ---- a state and its numbers
 
--- waiting; finished; refused, by a number that a reading gives; anything else was never begun
+-- a finished reading uses no more than can be lent
+abbrev pub finishable : Cursor → Bool
+finishable c = leb (c .rows) rowsMost && leb (c .store) storeMost
+
+-- waiting; finished or refused, as a reading can be; anything else was never begun
 unfoldable pub stateOf : Numbers → Memory → State
 stateOf n m =
     cond (eqb (n .head .status) statusWaiting) (wait (modeOf (n .head .work)) (framesOf (n .frames) (n .head .depth)) (n .head .cursor) m)
-    (cond (eqb (n .head .status) statusFinished) (over (finished (n .head .cursor) m))
-    (cond (eqb (n .head .status) statusRefused && leb no.badLoan (n .head .number) && leb (n .head .number) no.lost)
+    (cond (eqb (n .head .status) statusFinished && finishable (n .head .cursor)) (over (finished (n .head .cursor) m))
+    (cond (eqb (n .head .status) statusRefused && no.sayable (n .head .number) (n .head .told) (n .head .place))
     (over (refused (n .head .number) (n .head .told) (n .head .place) m))
     (none m)))
 
@@ -217,31 +225,69 @@ countsFit c m =
     leb (c .rows) (length (m .rows) / rowWidth) && leb (c .store) (length (m .store)) && leb (c .strings) (length (m .strings) / spanWidth)
     && leb (c .objects) (length (m .objects)) && leb (c .traits) (length (m .traits) / traitWidth) && leb (c .names) (length (m .names) / spanWidth)
 
--- a mode's row is used, and its spans
+-- a string's row is used; of a trait in the making its class too, and its first name is at most the next
 unfoldable pub useFits : Cursor → Use → Bool
 useFits c (forString row) = ltb row (c .rows)
 useFits c (forKey (assoc row left done)) = ltb row (c .rows)
 useFits c (forKey (dynamics row done)) = ltb row (c .rows)
 useFits c (forClass row count y) = ltb row (c .rows)
 useFits c forExternal = true
-useFits c (forName row t count) = ltb row (c .rows) && spanUsed c (classOf t)
+useFits c (forName row t count) = ltb row (c .rows) && spanUsed c (classOf t) && leb (t .first) (c .names)
 useFits c (forVector row count) = ltb row (c .rows)
 
+unfoldable pub wordFits : Cursor → Word → Bool
+wordFits c (integerWord row) = ltb row (c .rows)
+wordFits c (objectWord row) = ltb row (c .rows)
+wordFits c (sizeWord row b) = ltb row (c .rows)
+wordFits c (textWord u) = useFits c u
+
+abbrev pub numberRow : Number → ℕ
+numberRow (doubleBits row) = row
+numberRow (dateBits row) = row
+
+-- of a number of so many bytes behind its first, with so many bits each, `left` come after the next one, and those before it gave no more than they can
+abbrev pub partFits : ℕ → ℕ → ℕ → ℕ → Bool
+partFits most bits left part = leb left most && ltb part (2 ^ (bits * (most - left)))
+
+-- a span is used, and what is left of it lies in it
+abbrev pub bodyFits : Cursor → Span → ℕ → Bool
+bodyFits c s left = spanUsed c s && ltb left (s .size)
+
+-- the mode is one of ours, and what it holds lies in what is used
 unfoldable pub modeFits : Cursor → Mode → Bool
-modeFits c (atMarker k) = leb (k .mark) 1 && spanUsed c (span (k .begin) (k .size))
-modeFits c (atWord (integerWord row) left part) = ltb row (c .rows)
-modeFits c (atWord (objectWord row) left part) = ltb row (c .rows)
-modeFits c (atWord (sizeWord row b) left part) = ltb row (c .rows)
-modeFits c (atWord (textWord u) left part) = useFits c u
-modeFits c (atNumber (doubleBits row) left part) = ltb row (c .rows)
-modeFits c (atNumber (dateBits row) left part) = ltb row (c .rows)
+modeFits c (atMarker k) = eqb (k .mark) 0 || spanUsed c (span (k .begin) (k .size))
+modeFits c (atWord w left part) = wordFits c w && partFits wordMore wordBits left part
+modeFits c (atNumber d left part) = ltb (numberRow d) (c .rows) && partFits numberMore numberBits left part
 modeFits c (atFlag (rawFlag row w s)) = ltb row (c .rows) && spanUsed c s
 modeFits c (atFlag (objectsFlag row count)) = ltb row (c .rows)
 modeFits c (atFlag (dictionaryFlag row count)) = ltb row (c .rows)
-modeFits c (atText (xmlText row) s left test) = ltb row (c .rows) && spanUsed c s && ltb left (s .size)
-modeFits c (atText (tableText u) s left test) = useFits c u && spanUsed c s && ltb left (s .size)
-modeFits c (atRaw r s left) = ltb (rawRow r) (c .rows) && spanUsed c s && ltb left (s .size)
+modeFits c (atText (xmlText row) s left test) = ltb row (c .rows) && bodyFits c s left && leb test textBroken
+modeFits c (atText (tableText u) s left test) = useFits c u && bodyFits c s left && leb test textBroken
+modeFits c (atRaw r s left) = ltb (rawRow r) (c .rows) && bodyFits c s left
 modeFits c astray = false
+
+-- pairs done are below the used rows, since each has a row of its own
+abbrev pub pairsUsed : Cursor → Use → Bool
+pairsUsed c (forString row) = true
+pairsUsed c (forKey (assoc row left done)) = ltb done (c .rows)
+pairsUsed c (forKey (dynamics row done)) = ltb done (c .rows)
+pairsUsed c (forClass row count y) = true
+pairsUsed c forExternal = true
+pairsUsed c (forName row t count) = true
+pairsUsed c (forVector row count) = true
+
+abbrev pub pairsFit : Cursor → Mode → Bool
+pairsFit c (atMarker k) = true
+pairsFit c (atWord (integerWord row) left part) = true
+pairsFit c (atWord (objectWord row) left part) = true
+pairsFit c (atWord (sizeWord row b) left part) = true
+pairsFit c (atWord (textWord u) left part) = pairsUsed c u
+pairsFit c (atNumber d left part) = true
+pairsFit c (atFlag f) = true
+pairsFit c (atText (xmlText row) s left test) = true
+pairsFit c (atText (tableText u) s left test) = pairsUsed c u
+pairsFit c (atRaw r s left) = true
+pairsFit c astray = true
 
 -- at a marker so many may be open as can be, of which 9 then judges; with a value in work one less
 abbrev pub depthFits : Mode → ℕ → Bool
@@ -253,11 +299,10 @@ depthFits (atText x s left test) depth = ltb depth openLimit
 depthFits (atRaw r s left) depth = ltb depth openLimit
 depthFits astray depth = false
 
--- the loans are those of the beginning, which 1 would not refuse; no more is taken, used and open than can be; the mode is one of ours, and what it works
--- with is used
+-- the loans are those of the beginning, which 1 would not refuse; no more is taken, used and open than can be; what the mode holds lies in what is used
 unfoldable pub sound : Lent → Mode → List Frame → Cursor → Memory → Bool
 sound lent x fs c m =
-    sameLent (lentOf m) lent && eqb (faultOf m) 0 && leb (c .at) messageLimit && depthFits x (length fs) && countsFit c m && modeFits c x
+    sameLent (lentOf m) lent && eqb (faultOf m) 0 && leb (c .at) messageLimit && depthFits x (length fs) && countsFit c m && modeFits c x && pairsFit c x
 
 -- 12 before anything else
 unfoldable pub soundStep : Lent → ℕ → State → State

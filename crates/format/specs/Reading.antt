@@ -3,6 +3,7 @@ use mathlib.Core.Bool.{Bool, true, false, cond}
 use mathlib.Core.List.{List, [], _∷_}
 use Prim.Native.Nat.{ℕ, zero, suc, _+_, _*_, _-_}
 use lib.Dec.{leb, ltb, eqb}
+use lib.ListN.{length}
 use Rattle.rows.specs.declared.Cursor.{Cursor}
 use Rattle.rows.specs.declared.Span.{Span}
 use Rattle.rows.specs.declared.Key.{Key}
@@ -14,40 +15,18 @@ use Rattle.wire.specs.declared.Size.{Size}
 use Rattle.wire.specs.declared.Size.the-variants.{Old, New}
 use Rattle.wire.specs.declared.Shape.{Shape}
 use Rattle.wire.specs.declared.Shape.the-variants.{Object, Known, External, Inline}
-use Rattle.wire.specs.U29.{partOf}
+use Rattle.wire.specs.U29.{partOf, wordMore}
 use Rattle.wire.specs.Word.{sizeOf, shapeOf}
-use Rattle.wire.specs.Big.{digitOf}
+use Rattle.wire.specs.Big.{digitOf, numberMore}
 use Rattle.utf8.specs.States.{stepOf}
 use Rattle.format.specs.Refusals as no
 use Rattle.format.specs.Decide.{Out, stop, give, refuse, lost, Decision, looking, onRows, onStore, onStrings, onObjects, onTraits, onNames, widthOf}
 use Rattle.format.specs.Decide.{Body, xml, date, array, bytes, raw, objects, dictionary, Kind, leaf, integer, double, string, object, sized, kindOf}
-use Rattle.format.specs.Decide.{marker, closed, numbered, integerEnd, dateEnd, bodied, objectClass, vectorClass, fixed, weak, flagged, counted, grown}
+use Rattle.format.specs.Decide.{marker, closed, numbered, integerEnd, dateEnd, bodied, objectClass, vectorClass, fixed, weak, flagged, counted, keyEnd, grown}
 use Rattle.format.specs.Decide.{oldText, reserved, stored, judged, textEnd, entered, referred, oldTrait, traitOf, named, traitEnd, sealedKey, starred}
+pub use Rattle.format.specs.Readers.{ResultOf, ReaderOf, ok, bad, bind, _>>=_, _>>_, ret}
 
 -- ---- readers: bytes in, a result out
-
--- a result with the memory, the place and the bytes left; or a refusal: its number, told value and place, and the memory then
-pub data ResultOf (S P A : Type 0) : Type 0 where
-  ok : A → S → P → List ℕ → ResultOf S P A
-  bad : ℕ → ℕ → ℕ → S → ResultOf S P A
-
-abbrev pub ReaderOf : Type 0 → Type 0 → Type 0 → Type 0
-ReaderOf S P A = S → P → List ℕ → ResultOf S P A
-
-abbrev pub bind : {S P A B : Type 0} → ResultOf S P A → (A → ReaderOf S P B) → ResultOf S P B
-bind (ok a s p bs) f = f a s p bs
-bind (bad n t p s) f = bad n t p s
-
-infixl 1 _>>=_
-abbrev pub _>>=_ : {S P A B : Type 0} → ReaderOf S P A → (A → ReaderOf S P B) → ReaderOf S P B
-_>>=_ f g = λ s p bs. bind (f s p bs) g
-
-infixl 1 _>>_
-abbrev pub _>>_ : {S P A B : Type 0} → ReaderOf S P A → ReaderOf S P B → ReaderOf S P B
-f >> g = f >>= (λ x. g)
-
-abbrev pub ret : {S P A : Type 0} → A → ReaderOf S P A
-ret a s p bs = ok a s p bs
 
 -- over the loans and the cursor
 abbrev pub Result : Type 0 → Type 0
@@ -128,7 +107,7 @@ textOf at (New (suc n)) = do
 
 unfoldable pub text : (Span → Reader Unit) → Reader Span
 text at = do
-  w ← u29 3 0
+  w ← u29 wordMore 0
   textOf at (sizeOf w)
 
 abbrev pub plain : Span → Reader Unit
@@ -150,12 +129,19 @@ unfoldable pub pair : Values → ℕ → ℕ → ℕ → Reader Unit → Span �
 pair value row col done more s zero = ret tt
 pair value row col done more s (suc n) = value (keyOf s) >> by (onRows (counted row col done)) >> more
 
--- pairs of a row up to an empty key, `done` before them; `most` bounds them
-unfoldable pub pairs : Values → ℕ → ℕ → ℕ → ℕ → Reader Unit
-pairs value row col zero done = by (λ m c. lost)
-pairs value row col (suc most) done = do
+-- pairs of a row up to an empty key, `done` before them; f is more than the bytes left, so that it never runs out before them
+unfoldable pub pairsBy : Values → ℕ → ℕ → ℕ → ℕ → Reader Unit
+pairsBy value row col zero done = by (λ m c. lost)
+pairsBy value row col (suc f) done = do
   s ← text plain
-  pair value row col done (pairs value row col most (suc done)) s (s .size)
+  pair value row col done (pairsBy value row col f (suc done)) s (s .size)
+
+unfoldable pub pairs : Values → ℕ → ℕ → ℕ → Reader Unit
+pairs value row col done m c bs = pairsBy value row col (suc (length bs)) done m c bs
+
+-- a key of a dictionary and its value, `done` pairs before them
+unfoldable pub couple : Values → ℕ → ℕ → Reader Unit
+couple value row done = value noKey >> by (looking (λ m. keyEnd row done (m .rows))) >> value noKey
 
 -- ---- objects and vectors
 
@@ -169,7 +155,7 @@ names (suc n) = do
 -- dynamic members, if there are to be any
 unfoldable pub dynamics : Values → ℕ → ℕ → Reader Unit
 dynamics value row zero = ret tt
-dynamics value row (suc y) = pairs value row colCount2 messageLimit 0
+dynamics value row (suc y) = pairs value row colCount2 0
 
 -- an object's members, by its trait, and its end
 unfoldable pub members : Values → ℕ → Trait → Reader Unit
@@ -215,10 +201,10 @@ newOf value row xml n = do
   valid ← charsOf s n
   by (looking (λ m. judged valid)) >> by (onRows (closed row))
 newOf value row date n = do
-  bits ← number 7 0
+  bits ← number numberMore 0
   by (onRows (dateEnd row bits))
 newOf value row array n =
-    pairs value row colCount messageLimit 0 >> entries (λ done. value noKey) row colCount2 n 0 >> by (onRows (closed row))
+    pairs value row colCount 0 >> entries (λ done. value noKey) row colCount2 n 0 >> by (onRows (closed row))
 newOf value row bytes n = do
   s ← room row n
   filled (λ left. ret tt) s n >> by (onRows (closed row))
@@ -233,7 +219,7 @@ newOf value row objects n = do
   by (onRows (vectorClass row star s)) >> entries (λ done. value noKey) row colCount n 0 >> by (onRows (closed row))
 newOf value row dictionary n = do
   b ← byte
-  by (onRows (flagged row (weak b))) >> entries (λ done. value noKey >> value noKey) row colCount n 0 >> by (onRows (closed row))
+  by (onRows (flagged row (weak b))) >> entries (couple value row) row colCount n 0 >> by (onRows (closed row))
 
 -- what a size word is followed by
 unfoldable pub sizedOf : Values → ℕ → Body → Size → Reader Unit
@@ -246,19 +232,19 @@ sizedOf value row body (New n) = by (onObjects (entered row)) >> newOf value row
 unfoldable pub marked : Values → ℕ → Kind → Reader Unit
 marked value row leaf = ret tt
 marked value row integer = do
-  w ← u29 3 0
+  w ← u29 wordMore 0
   by (onRows (integerEnd row w))
 marked value row double = do
-  bits ← number 7 0
+  bits ← number numberMore 0
   by (onRows (numbered row bits))
 marked value row string = do
   s ← text (λ s. by (onRows (bodied row s)))
   by (onRows (bodied row s)) >> by (onRows (closed row))
 marked value row object = do
-  w ← u29 3 0
+  w ← u29 wordMore 0
   objectOf value row (shapeOf w)
 marked value row (sized body) = do
-  w ← u29 3 0
+  w ← u29 wordMore 0
   sizedOf value row body (sizeOf w)
 
 -- a value, where so many may still open: at 0 its marker is refused

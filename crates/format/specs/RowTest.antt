@@ -1,6 +1,7 @@
 -- Refusals 13 and 14: which rows are malformed, and which can't be written. The rows are all that there are; the store may be larger than what they use.
 use mathlib.Core.Bool.{Bool, true, false, cond, not, _&&_, _||_}
 use mathlib.Core.List.{List, [], _∷_}
+use mathlib.Core.Option.{Option, none, some}
 use Prim.Native.Nat.{ℕ, zero, suc, _+_, _*_, _-_, _^_}
 use lib.Dec.{leb, ltb, eqb}
 use lib.ListN.{length}
@@ -64,9 +65,9 @@ columnsFit R B i kind =
     && meant (hasFlag kind) (col R i colFlag) && leb (col R i colFlag) 1
     && meant (hasNumber kind) (col R i colNumber) && meant (hasCount kind) (col R i colCount) && meant (hasCount2 kind) (col R i colCount2)
 
--- a column as a signed number of h + 1 bits
+-- a column of 64 bits as a signed number of h + 1 bits
 unfoldable pub signedFits : ℕ → ℕ → Bool
-signedFits h n = ltb n (2 ^ h) || leb (2 ^ 64 - 2 ^ h) n
+signedFits h n = ltb n (2 ^ h) || (leb (2 ^ 64 - 2 ^ h) n && ltb n (2 ^ 64))
 
 -- what a kind asks of its number, or of its body's length
 unfoldable pub valueFits : List ℕ → ℕ → ℕ → Bool
@@ -94,33 +95,44 @@ closes R stop k (suc n) = ltb k (col R k colEnd) && leb (col R k colEnd) stop &&
 
 -- what a row is given: no key, a key, a key that is not empty
 pub data Given : Type 0 where
-  keyless keyed filled : Given
+  keyless anyKey fullKey : Given
 
 -- by row p, to its child number j
 unfoldable pub gives : List ℕ → ℕ → ℕ → Given
 gives R p j =
-    cond (eqb (col R p colKind) kindArray) (cond (ltb j (col R p colCount)) filled keyless)
-    (cond (eqb (col R p colKind) kindObject) (cond (ltb j (col R p colCount)) keyed filled) keyless)
+    cond (eqb (col R p colKind) kindArray) (cond (ltb j (col R p colCount)) fullKey keyless)
+    (cond (eqb (col R p colKind) kindObject) (cond (ltb j (col R p colCount)) anyKey fullKey) keyless)
 
--- to row i, if it is among n children of row p, from row k, the first of them number j; else as before
-unfoldable pub givenIn : Given → List ℕ → ℕ → ℕ → ℕ → ℕ → ℕ → Given
-givenIn before R p i k j zero = before
-givenIn before R p i k j (suc n) = cond (eqb k i) (gives R p j) (givenIn before R p i (col R k colEnd) (suc j) n)
+-- the parent of row i among the first p rows: the last of them whose end is past it
+unfoldable pub parentIn : List ℕ → ℕ → ℕ → Option ℕ
+parentIn R zero i = none
+parentIn R (suc p) i = cond (ltb i (col R p colEnd)) (some p) (parentIn R p i)
 
--- by the first p rows; a root is given none
-unfoldable pub given : List ℕ → ℕ → ℕ → Given
-given R zero i = keyless
-given R (suc p) i = givenIn (given R p i) R p i (suc p) 0 (children R p)
+-- which child row i is among n from row k on, walked by their ends, the first of them number j
+unfoldable pub numberIn : List ℕ → ℕ → ℕ → ℕ → ℕ → ℕ
+numberIn R i k j zero = j
+numberIn R i k j (suc n) = cond (eqb k i) j (numberIn R i (col R k colEnd) (suc j) n)
 
+-- to row i by its parent, if it has one
+abbrev pub givenBy : List ℕ → ℕ → Option ℕ → Given
+givenBy R i none = keyless
+givenBy R i (some p) = gives R p (numberIn R i (suc p) 0 (children R p))
+
+-- to row i; a root is given none
+unfoldable pub given : List ℕ → ℕ → Given
+given R i = givenBy R i (parentIn R i i)
+
+-- the key's mark that it asks
 abbrev pub markOf : Given → ℕ
 markOf keyless = 0
-markOf keyed = 1
-markOf filled = 1
+markOf anyKey = 1
+markOf fullKey = 1
 
+-- whether it asks a key that is not empty
 abbrev pub isFilled : Given → Bool
 isFilled keyless = false
-isFilled keyed = false
-isFilled filled = true
+isFilled anyKey = false
+isFilled fullKey = true
 
 -- ---- the refusals
 
@@ -132,7 +144,7 @@ wellFormed R B i =
     && markFits B (col R i colKeyMark) (col R i colKeyBegin) (col R i colKeySize)
     && columnsFit R B i (col R i colKind) && valueFits R i (col R i colKind)
     && leb (col R i colEnd) (rowsIn R) && closes R (col R i colEnd) (suc i) (children R i)
-    && eqb (col R i colKeyMark) (markOf (given R i i))
+    && eqb (col R i colKeyMark) (markOf (given R i))
 
 -- 14: not so of a row that is well formed, by its number, its body or class, and its key
 unfoldable pub numberWritable : List ℕ → ℕ → ℕ → Bool
@@ -147,7 +159,7 @@ bodyWritable R B i kind =
     true)
 
 unfoldable pub keyWritable : List ℕ → List ℕ → ℕ → Bool
-keyWritable R B i = validText (keyText R B i) && (ltb 0 (col R i colKeySize) || not (isFilled (given R i i)))
+keyWritable R B i = validText (keyText R B i) && (ltb 0 (col R i colKeySize) || not (isFilled (given R i)))
 
 unfoldable pub writable : List ℕ → List ℕ → ℕ → Bool
 writable R B i = numberWritable R i (col R i colKind) && bodyWritable R B i (col R i colKind) && keyWritable R B i

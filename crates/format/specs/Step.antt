@@ -19,14 +19,14 @@ use Rattle.wire.specs.declared.Size.{Size}
 use Rattle.wire.specs.declared.Size.the-variants.{Old, New}
 use Rattle.wire.specs.declared.Shape.{Shape}
 use Rattle.wire.specs.declared.Shape.the-variants.{Object, Known, External, Inline}
-use Rattle.wire.specs.U29.{partOf}
+use Rattle.wire.specs.U29.{partOf, wordMore}
 use Rattle.wire.specs.Word.{sizeOf, shapeOf}
-use Rattle.wire.specs.Big.{digitOf}
+use Rattle.wire.specs.Big.{digitOf, numberMore}
 use Rattle.utf8.specs.States.{stepOf}
 use Rattle.format.specs.Decide.{Out, stop, give, refuse, lost, Decision, looking, onRows, onStore, onStrings, onObjects, onTraits, onNames, Width}
 use Rattle.format.specs.Decide.{widthOf, Body, xml, date, array, bytes, raw, objects, dictionary, Kind, leaf, integer, double, string, object, sized}
 use Rattle.format.specs.Decide.{kindOf, marker, closed, numbered, integerEnd, dateEnd, bodied, objectClass, vectorClass, fixed, weak, flagged}
-use Rattle.format.specs.Decide.{counted, grown, oldText, reserved, stored, judged, textEnd, entered, referred, oldTrait, traitOf, named, traitEnd}
+use Rattle.format.specs.Decide.{counted, keyEnd, grown, oldText, reserved, stored, judged, textEnd, entered, referred, oldTrait, traitOf, named, traitEnd}
 use Rattle.format.specs.Decide.{sealedKey, starred}
 use Rattle.format.specs.Reading.{Ended, finished, refused, refusal, taken}
 
@@ -142,20 +142,15 @@ broken m = over (refusal no.lost 0 0 m)
 
 -- a string is next
 abbrev pub atString : Use → Mode
-atString u = atWord (textWord u) 3 0
-
--- the next key, if there are not too many before it
-abbrev pub nextKey : ℕ → Pairing → List Frame → Cursor → Memory → State
-nextKey done p ts c m = cond (leb messageLimit done) (broken m) (wait (atString (forKey p)) ts c m)
+atString u = atWord (textWord u) wordMore 0
 
 -- a task goes on with what it has left; k is what comes when its value is finished
 unfoldable pub go : (Cursor → Memory → State) → List Frame → Task → Cursor → Memory → State
-go k ts (pairsOf (assoc row n done)) c m = nextKey done (assoc row n done) ts c m
-go k ts (pairsOf (dynamics row done)) c m = nextKey done (dynamics row done) ts c m
+go k ts (pairsOf p) c m = wait (atString (forKey p)) ts c m
 go k ts (itemsOf i row zero done) c m = on (onRows (closed row) m c) m (λ x c m. k c m)
 go k ts (itemsOf i row (suc n) done) c m = wait (atMarker noKey) (frameOf (itemsOf i row n done) ∷ ts) c m
 go k ts (membersOf row zero done first zero) c m = on (onRows (closed row) m c) m (λ x c m. k c m)
-go k ts (membersOf row zero done first (suc y)) c m = nextKey 0 (dynamics row 0) ts c m
+go k ts (membersOf row zero done first (suc y)) c m = wait (atString (forKey (dynamics row 0))) ts c m
 go k ts (membersOf row (suc n) done first y) c m =
     on (looking (λ m. sealedKey (first + done) (m .names)) m c) m (λ key c m. wait (atMarker key) (frameOf (membersOf row n done first y) ∷ ts) c m)
 go k ts (keysOf row zero done) c m = on (onRows (closed row) m c) m (λ x c m. k c m)
@@ -169,7 +164,7 @@ entry (pairsOf (assoc row n done)) c m f = on (onRows (counted row colCount done
 entry (pairsOf (dynamics row done)) c m f = on (onRows (counted row colCount2 done) m c) m (λ x. f (pairsOf (dynamics row (suc done))))
 entry (itemsOf i row n done) c m f = on (onRows (counted row (countOf i) done) m c) m (λ x. f (itemsOf i row n (suc done)))
 entry (membersOf row n done first y) c m f = on (onRows (counted row colCount done) m c) m (λ x. f (membersOf row n (suc done) first y))
-entry (keysOf row n done) c m f = f (valuesOf row n done) c m
+entry (keysOf row n done) c m f = on (looking (λ m. keyEnd row done (m .rows)) m c) m (λ x. f (valuesOf row n done))
 entry (valuesOf row n done) c m f = on (onRows (counted row colCount done) m c) m (λ x. f (keysOf row n (suc done)))
 entry strange c m f = broken m
 
@@ -254,8 +249,8 @@ filling ts r s (suc n) c m = wait (atRaw r s n) ts c m
 
 unfoldable pub opened : List Frame → ℕ → Body → ℕ → Cursor → Memory → State
 opened ts row xml n c m = roomy row n c m (λ s. texting ts row s n)
-opened ts row date n c m = wait (atNumber (dateBits row) 7 0) ts c m
-opened ts row array n c m = nextKey 0 (assoc row n 0) ts c m
+opened ts row date n c m = wait (atNumber (dateBits row) numberMore 0) ts c m
+opened ts row array n c m = wait (atString (forKey (assoc row n 0))) ts c m
 opened ts row bytes n c m = roomy row n c m (λ s. filling ts (byteArray row) s n)
 opened ts row (raw w) n c m = roomy row (n * widthOf w) c m (λ s. wait (atFlag (rawFlag row w s)) ts)
 opened ts row objects n c m = wait (atFlag (objectsFlag row n)) ts c m
@@ -300,13 +295,17 @@ rawGrown (rawVector row w) s n = onRows (grown row w s n)
 
 unfoldable pub begun : List Frame → ℕ → Kind → Cursor → Memory → State
 begun ts row leaf c m = pop ts c m
-begun ts row integer c m = wait (atWord (integerWord row) 3 0) ts c m
-begun ts row double c m = wait (atNumber (doubleBits row) 7 0) ts c m
+begun ts row integer c m = wait (atWord (integerWord row) wordMore 0) ts c m
+begun ts row double c m = wait (atNumber (doubleBits row) numberMore 0) ts c m
 begun ts row string c m = wait (atString (forString row)) ts c m
-begun ts row object c m = wait (atWord (objectWord row) 3 0) ts c m
-begun ts row (sized body) c m = wait (atWord (sizeWord row body) 3 0) ts c m
+begun ts row object c m = wait (atWord (objectWord row) wordMore 0) ts c m
+begun ts row (sized body) c m = wait (atWord (sizeWord row body) wordMore 0) ts c m
 
 -- ---- the step
+
+-- the key that a new row shows: with mark 0 it has none
+unfoldable pub shown : Key → Key
+shown k = cond (eqb (k .mark) 0) noKey k
 
 -- after a byte of a number
 abbrev pub onPart : Part → Memory → (ℕ → State) → (ℕ → State) → State
@@ -316,7 +315,7 @@ onPart (Whole n) m more whole = whole n
 
 -- byte b for a mode, the cursor already past it
 unfoldable pub act : Mode → ℕ → List Frame → Cursor → Memory → State
-act (atMarker k) b ts c m = on (onRows (marker k (openLimit - length ts) b) m c) m (λ row. begun ts row (kindOf b))
+act (atMarker k) b ts c m = on (onRows (marker (shown k) (openLimit - length ts) b) m c) m (λ row. begun ts row (kindOf b))
 act (atWord w left n) b ts c m = onPart (partOf left n b) m (λ n. wait (atWord w (left - 1) n) ts c m) (λ n. worded ts w n c m)
 act (atNumber d left n) b ts c m = onPart (digitOf left n b) m (λ n. wait (atNumber d (left - 1) n) ts c m) (λ n. numberDone ts d n c m)
 act (atFlag f) b ts c m = flagDone ts f b c m

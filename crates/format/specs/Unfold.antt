@@ -90,6 +90,6 @@ unfoldable pub treeAt : ℕ → List ℕ → List ℕ → ℕ → Tree
 treeAt zero R B i = plain null
 treeAt (suc levels) R B i = node (treeAt levels R B) R B (home R i)
 
--- to all: rows that pass 13 have fewer levels than this
+-- to all: rows that pass 13 have no more levels than rows
 unfoldable pub unfolded : List ℕ → List ℕ → ℕ → Tree
-unfolded R B i = treeAt (rowsIn R * rowsIn R + 1) R B i
+unfolded R B i = treeAt (rowsIn R) R B i

@@ -1,13 +1,14 @@
--- Counts that may be too large for a column: the cap, and products by division.
-use mathlib.Core.Path.{_≡_, sym, ap, _∙_}
-use mathlib.Core.Bool.{false}
+-- Counts that may be too large for a column: the cap, and products by division. Columns of signed numbers.
+use mathlib.Core.Path.{_≡_, refl, sym, ap, _∙_}
+use mathlib.Core.Bool.{Bool, true, false, _&&_}
 use mathlib.Core.Logic.{_≢_}
-use Prim.Native.Nat.{ℕ, _+_, _*_, _-_, _/_, _%_, _<_, _≤_}
+use Prim.Native.Nat.{ℕ, _+_, _*_, _-_, _^_, _/_, _%_, _<_, _≤_}
 use native.Mathlib.Omega.{arith}
 use native.Mathlib.Nat.{div-add-mod, div-eq-of-eq-mul-right, mul-mod-right}
 use native.Mathlib.Decide.{ℕ-discrete}
-use borrow.Author.Tests.{le-leb, lt-leb, eq-eqb, ne-eqb}
-use lib.Dec.{eqb}
+use borrow.Author.Tests.{lt-ltb, le-ltb, le-leb, lt-leb, eq-eqb, ne-eqb}
+use lib.Dec.{leb, eqb}
+use Rattle.format.specs.RowTest.{signedFits}
 use Rattle.judge.specs.Pass.{capped}
 
 pub capped-past : (most n : ℕ) → most < n → most ≡ capped most n
@@ -39,3 +40,12 @@ capped-one most n = let e : n + 0 ≡ n = omega arith in rw e
 
 pub capped-pairs : (most n : ℕ) → capped most (n + n) ≡ capped most (2 * n)
 capped-pairs most n = let e : n + n ≡ 2 * n = omega arith in rw e
+
+-- a column from 2 to the h on
+pub signed-high : (h n : ℕ) → 2 ^ h ≤ n → n < 2 ^ 64 → leb (2 ^ 64 - 2 ^ h) n ≡ signedFits h n
+unfolding signedFits
+signed-high h n l f = rw (le-ltb n (2 ^ h) l, lt-ltb n (2 ^ 64) f) (more (leb (2 ^ 64 - 2 ^ h) n))
+  where
+    more : (t : Bool) → t ≡ (t && true)
+    more true = refl
+    more false = refl

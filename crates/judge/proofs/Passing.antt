@@ -31,7 +31,7 @@ record Low (R : List ℕ) (bad : ℕ → Given → Bool) (i least : ℕ) : Type 
 
 module _ (R : List ℕ) (bad : ℕ → Given → Bool) where
   -- row i is faulty just if it is the least
-  bad-is : (i l : ℕ) → Low R bad i l → Shut R i → i < rowsIn R → i < col R 0 colEnd → bad i (given R i i) ≡ eqb l i
+  bad-is : (i l : ℕ) → Low R bad i l → Shut R i → i < rowsIn R → i < col R 0 colEnd → bad i (given R i) ≡ eqb l i
   bad-is i l L shut h z =
       elim (decLt i l) [
         | yes t ↦
@@ -43,7 +43,7 @@ module _ (R : List ℕ) (bad : ℕ → Given → Bool) where
             rw (eq-eqb l i e) (here e (f .0) (f .1) (f .2))
       ]
     where
-      here : l ≡ i → (g : Given) → Gets R i l g → bad l g ≡ true → bad i (given R i i) ≡ true
+      here : l ≡ i → (g : Given) → Gets R i l g → bad l g ≡ true → bad i (given R i) ≡ true
       here e g x b = rw (only R i shut g (rw e at x)) (rw e at b)
 
   -- the least behind row i
@@ -122,15 +122,15 @@ not-hollow f (suc z) =
 
 module _ (R B : List ℕ) where
   -- by the least rows, in place of what row i is given
-  formed-is : (i w : ℕ) → isWrong R i (given R i i) ≡ eqb w i
+  formed-is : (i w : ℕ) → isWrong R i (given R i) ≡ eqb w i
       → wellFormed R B i ≡ (rowFits R B i && closes R (col R i colEnd) (suc i) (children R i) && not (eqb w i))
   unfolding wellFormed rowFits isWrong
-  formed-is i w h = rw (← h, ← not-not (eqb (col R i colKeyMark) (markOf (given R i i))))
+  formed-is i w h = rw (← h, ← not-not (eqb (col R i colKeyMark) (markOf (given R i))))
 
-  writable-is : (i e : ℕ) → isEmpty R i (given R i i) ≡ eqb e i → writable R B i ≡ (rowWritable R B i && not (eqb e i))
+  writable-is : (i e : ℕ) → isEmpty R i (given R i) ≡ eqb e i → writable R B i ≡ (rowWritable R B i && not (eqb e i))
   unfolding writable keyWritable rowWritable isEmpty
   writable-is i e h =
-      rw (← h, not-hollow (isFilled (given R i i)) (col R i colKeySize))
+      rw (← h, not-hollow (isFilled (given R i)) (col R i colKeySize))
       (last-last (numberWritable R i (col R i colKind)) (bodyWritable R B i (col R i colKind)) (validText (keyText R B i)) _)
 
   -- a row that fits stands before the end of the root, and ends within the rows

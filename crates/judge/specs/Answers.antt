@@ -1,5 +1,5 @@
 -- What the code answers, as the definition has it.
-use Rattle.format.specs.RowTest.{Given, keyless, keyed, filled, Tested, fine, faulty}
+use Rattle.format.specs.RowTest.{Given, keyless, anyKey, fullKey, Tested, fine, faulty}
 use Rattle.judge.specs.declared.Judged.{Judged}
 use Rattle.judge.specs.declared.Judged.the-variants as judged
 use Rattle.judge.specs.declared.Gift.{Gift}
@@ -11,5 +11,5 @@ judgedOf (judged.Faulty n row) = faulty n row
 
 abbrev pub givenOf : Gift → Given
 givenOf gift.Keyless = keyless
-givenOf gift.Keyed = keyed
-givenOf gift.Filled = filled
+givenOf gift.Keyed = anyKey
+givenOf gift.Filled = fullKey

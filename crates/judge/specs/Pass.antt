@@ -8,8 +8,8 @@ use Rattle.rows.specs.Memory.{span, colKind, colKeyMark, colKeyBegin, colKeySiz
 use Rattle.rows.specs.Kinds.{kindUndefined, kindArray, kindObject, kindReference}
 use Rattle.utf8.specs.Grammar.{validText}
 use Rattle.format.specs.Unfold.{rowsIn, col, keyText}
-use Rattle.format.specs.RowTest.{hasText, hasBody, hasClass, isObject, spanFits, markFits, meant, columnsFit, valueFits, children, Given, keyless, keyed}
-use Rattle.format.specs.RowTest.{filled, markOf, isFilled, numberWritable, bodyWritable, Tested, fine, faulty}
+use Rattle.format.specs.RowTest.{hasText, hasBody, hasClass, isObject, spanFits, markFits, meant, columnsFit, valueFits, children, Given, keyless, anyKey}
+use Rattle.format.specs.RowTest.{fullKey, markOf, isFilled, numberWritable, bodyWritable, Tested, fine, faulty}
 use Rattle.judge.specs.declared.Walked.{Walked}
 use Rattle.judge.specs.declared.Walked.the-variants.{Closed, Broken}
 
@@ -57,7 +57,7 @@ capped most n = cond (leb n most) n most
 -- what a row of this kind and count gives to its child number j
 unfoldable pub givesBy : ℕ → ℕ → ℕ → Given
 givesBy kind count j =
-    cond (eqb kind kindArray) (cond (ltb j count) filled keyless) (cond (eqb kind kindObject) (cond (ltb j count) keyed filled) keyless)
+    cond (eqb kind kindArray) (cond (ltb j count) fullKey keyless) (cond (eqb kind kindObject) (cond (ltb j count) anyKey fullKey) keyless)
 
 -- row k has another mark than it is given
 unfoldable pub isWrong : List ℕ → ℕ → Given → Bool

@@ -2,11 +2,11 @@
 use Prim.Native.Nat.{ℕ, _+_}
 use Rattle.rows.specs.declared.Span.{Span}
 use Rattle.rows.specs.declared.Trait.{Trait}
-use Rattle.rows.specs.Memory.{noKey}
 use Rattle.wire.specs.declared.Size.{Size}
 use Rattle.wire.specs.declared.Size.the-variants.{Old, New}
 use Rattle.wire.specs.declared.Shape.{Shape}
 use Rattle.wire.specs.declared.Shape.the-variants.{Object, Known, External, Inline}
+use Rattle.wire.specs.U29.{wordMore}
 use Rattle.wire.specs.Word.{sizeOf, shapeOf}
 use Rattle.decide.specs.Outcomes.{stopped}
 use Rattle.format.specs.Decide.{Out, stop, give, refuse, lost, looking, onRows, onObjects, onTraits, objectClass, entered, referred, oldTrait, traitOf, traitEnd}
@@ -34,7 +34,7 @@ sizeRest row (New n) = by (onObjects (entered row)) >> ret (rest n)
 
 unfoldable pub sizeHead : ℕ → Reader (Rest ℕ)
 sizeHead row = do
-  w ← u29 3 0
+  w ← u29 wordMore 0
   sizeRest row (sizeOf w)
 
 -- a trait whose class is whole: its names, and its place in the traits
@@ -63,7 +63,7 @@ objectRest row (Inline n dynamic) = by (onObjects (entered row)) >> newTrait row
 
 unfoldable pub objectHead : ℕ → Reader (Rest Trait)
 objectHead row = do
-  w ← u29 3 0
+  w ← u29 wordMore 0
   objectRest row (shapeOf w)
 
 -- a body that is whole, and its row's end
@@ -79,10 +79,6 @@ vectorHead row = do
   by (onRows (vectorClass row star s))
 
 -- ---- entries
-
--- a dictionary's entry
-abbrev pub couple : Values → Reader Unit
-couple value = value noKey >> value noKey
 
 -- a sealed member, after so many
 abbrev pub sealedMember : Values → Trait → ℕ → Reader Unit

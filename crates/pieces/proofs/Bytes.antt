@@ -2,7 +2,7 @@
 use mathlib.Core.Path.{_≡_, refl, sym, ap, _∙_}
 use mathlib.Core.Bool.{Bool, true, false, cond, _&&_, _||_}
 use mathlib.Core.List.{List, [], _∷_}
-use Prim.Native.Nat.{ℕ, _+_}
+use Prim.Native.Nat.{ℕ, _+_, _^_, _<_}
 use native.Mathlib.Omega.{arith}
 use native.Mathlib.Nat.{add-zero}
 use lib.Dec.{leb, eqb}
@@ -18,18 +18,19 @@ use Rattle.format.specs.declared.Work.{Work}
 use Rattle.format.specs.Reading.{finished, refused}
 use Rattle.format.specs.Step.{State, wait, over, none, broken}
 use Rattle.format.specs.Numbers.{Held, held, byteStep, stateOf, afterStep, modeOf, workOf, framesOf, laid, lentOf, sameLent, sound, soundStep, depthFits}
-use Rattle.format.specs.Numbers.{countsFit, modeFits, framesSize}
+use Rattle.format.specs.Numbers.{countsFit, modeFits, pairsFit, finishable, framesSize}
 use Rattle.format.specs.Answers.{runHeld, takenBy, cost, costFrom, stateIn}
 use Rattle.format.proofs.Tests.{on-bool, clash, both}
 use Rattle.format.proofs.States.{Shown, state-numbered, mode-of, length-laid, frames-laid}
 use Rattle.format.proofs.Along.{Good, waits, finishes, declines, good-step}
-use Rattle.format.proofs.Shows.{good-sound, good-shown, sound-holds}
+use Rattle.format.proofs.Shows.{good-sound, good-shown, sound-pairs}
 use Rattle.format.proofs.Pieces.{run-still, taken-still}
 use Rattle.resume.proofs.Next as next
 use Rattle.resume.specs.declared.Next.{Next}
 use Rattle.resume.specs.declared.Next.the-variants.{Wait, Finished, Refused}
 use Rattle.resume.specs.Steps.{After, after, afterOf, settled}
-use Rattle.pieces.specs.States.{numbers, hasEnded, stateAfter, heldOf, costOf, Ready}
+use Rattle.pieces.specs.States.{numbers, stateAfter, heldOf, costOf, Ready, Nearly}
+use Rattle.states.specs.Ends.{hasEnded}
 use Rattle.pieces.proofs.Steps.{goes, byte-held}
 use Rattle.format.specs.Codes.{statusWaiting, statusFinished, statusRefused}
 use Rattle.format.specs.Refusals as refusals
@@ -52,16 +53,31 @@ cost-told F (over (finished c m)) = refl
 cost-told F (over (refused number told place m)) = refl
 cost-told F (none m) = refl
 
+-- ---- pairs done
+
+module _ (w : Work) (c : Cursor) (d : ℕ) (F : List ℕ) (m : Memory) where
+  pub nearly-ready : Nearly w c d F m → pairsFit c (modeOf w) ≡ true → Ready w c d F m
+  nearly-ready r e = (r .0 ∙ e, r .1)
+
+  pub pairs-hold : Ready w c d F m → pairsFit c (modeOf w) ≡ true
+  unfolding sound
+  pairs-hold r =
+      both (sameLent (lentOf m) (lentOf m) && eqb (faultOf m) 0 && leb (c .at) messageLimit && depthFits (modeOf w) (length (framesOf F d)) && countsFit c m
+      && modeFits c (modeOf w)) (pairsFit c (modeOf w)) (r .0) .1
+
+  pub ready-nearly : Ready w c d F m → Nearly w c d F m
+  ready-nearly r = (r .0 ∙ sym (pairs-hold r), r .1)
+
 -- ---- what a byte leaves
 
--- a state that waits is sound, over the loans that there were
+-- a state that waits is sound but for its pairs done, over the loans that there were
 abbrev Well : Lent → State → Type 0
-Well l (wait x ts c m) = (sound (lentOf m) x ts c m ≡ true) × (lentOf m ≡ l)
+Well l (wait x ts c m) = (sound (lentOf m) x ts c m ≡ pairsFit c x) × (lentOf m ≡ l)
 Well l (over e) = Unit
 Well l (none m) = Unit
 
 well-good : {l : Lent} {at : ℕ} (s : State) → Good l at s → Well l s
-well-good s (waits {x = x} {ts = ts} {c = c} {m = m} h f u) = (rw (h .lends) (sound-holds x ts c m h f u), h .lends)
+well-good s (waits {x = x} {ts = ts} {c = c} {m = m} h f u) = (rw (h .lends) (sound-pairs x ts c m h f u), h .lends)
 well-good s (finishes h) = tt
 well-good s (declines t h z) = tt
 
@@ -82,21 +98,22 @@ same-lengths a b e =
       eqb-true (a .names) (b .names) n,
     )
 
-first : (p q r s t u : Bool) → (p && q && r && s && t && u) ≡ true → p ≡ true
-first p q r s t u e = both p q (both (p && q) r (both (p && q && r) s (both (p && q && r && s) t (both (p && q && r && s && t) u e .0) .0) .0) .0) .0
+first : (p q r s t u v : Bool) → (p && q && r && s && t && u && v) ≡ true → p ≡ true
+first p q r s t u v e =
+    both p q (both (p && q) r (both (p && q && r) s (both (p && q && r && s) t (both (p && q && r && s && t) u (both (p && q && r && s && t && u) v e .0) .0) .0) .0) .0) .0
 
 lent-sound : (h : Head) (F : List ℕ) (m : Memory) → sound (h .lent) (modeOf (h .work)) (framesOf F (h .depth)) (h .cursor) m ≡ true → h .lent ≡ lentOf m
 unfolding sound
 lent-sound h F m e =
     same-lengths (lentOf m) (h .lent) (first (sameLent (lentOf m) (h .lent)) (eqb (faultOf m) 0) (leb (h .cursor .at) messageLimit)
-    (depthFits (modeOf (h .work)) (length (framesOf F (h .depth)))) (countsFit (h .cursor) m) (modeFits (h .cursor) (modeOf (h .work))) e)
+    (depthFits (modeOf (h .work)) (length (framesOf F (h .depth)))) (countsFit (h .cursor) m) (modeFits (h .cursor) (modeOf (h .work))) (pairsFit (h .cursor) (modeOf (h .work))) e)
 
-module _ (b : ℕ) (h : Head) (F : List ℕ) (m : Memory) where
+module _ (b : ℕ) (octet : b < 2 ^ 8) (h : Head) (F : List ℕ) (m : Memory) where
   after-well : Well (lentOf m) (stateAfter b h F m) × Shown (stateAfter b h F m)
-  unfolding stateAfter soundStep
+  unfolding stateAfter soundStep refusals.sayable
   after-well = on-bool (eqb (h .status) statusWaiting)
       (λ e. rw e (on-bool (sound (h .lent) (modeOf (h .work)) (framesOf F (h .depth)) (h .cursor) m)
-      (λ e. rw e (let g = good-step b _ (good-sound (h .lent) (modeOf (h .work)) (framesOf F (h .depth)) (h .cursor) m e) in (well-good _ g, good-shown _ g)))
+      (λ e. rw e (let g = good-step b _ octet (good-sound (h .lent) (modeOf (h .work)) (framesOf F (h .depth)) (h .cursor) m e) in (well-good _ g, good-shown _ g)))
       (λ e. rw e (tt, tt))))
       (λ e. rw e (tt, tt))
 
@@ -109,7 +126,7 @@ module _ (b : ℕ) (h : Head) (F : List ℕ) (m : Memory) where
     -- what was never begun takes no byte, and 12 counts none
     cost-after : costFrom (stateOf (numbers h F) m) (stateAfter b h F m) ≡ cost (stateAfter b h F m)
     unfolding hasEnded stateOf stateAfter
-    cost-after = by (eqb (h .status) statusWaiting) (eqb (h .status) statusFinished) (eqb (h .status) statusRefused && leb refusals.badLoan (h .number) && leb (h .number) refusals.lost) going
+    cost-after = by (eqb (h .status) statusWaiting) (eqb (h .status) statusFinished && finishable (h .cursor)) (eqb (h .status) statusRefused && refusals.sayable (h .number) (h .told) (h .place)) going
       where
         by : (t u v : Bool) → cond t false (u || v) ≡ false
             → costFrom (cond t (wait (modeOf (h .work)) (framesOf F (h .depth)) (h .cursor) m)
@@ -170,7 +187,7 @@ module _ (b : ℕ) (h : Head) (F : List ℕ) (m : Memory) where
         (λ p. let z = rw p at told in clash cc)
 
     ready-left : length F ≡ framesSize → (s : State) → Well (lentOf m) s → Shown s → settled (after (Wait w c d) F′ m′) ≡ afterOf F s
-        → Ready w c d F′ m′ × (lentOf m′ ≡ lentOf m) × (length F′ ≡ length F)
+        → Nearly w c d F′ m′ × (lentOf m′ ≡ lentOf m) × (length F′ ≡ length F)
     unfolding settled afterOf openLimit
     ready-left room (wait x ts k n) (p, q) sh e =
         let ew : w ≡ workOf x = cc in
@@ -183,5 +200,5 @@ module _ (b : ℕ) (h : Head) (F : List ℕ) (m : Memory) where
     ready-left room (over (refused number place n k)) p sh e = clash cc
     ready-left room (none n) p sh e = clash cc
 
-    pub is-ready : length F ≡ framesSize → Ready w c d F′ m′ × (lentOf m′ ≡ lentOf m) × (length F′ ≡ length F)
+    pub is-ready : length F ≡ framesSize → Nearly w c d F′ m′ × (lentOf m′ ≡ lentOf m) × (length F′ ≡ length F)
     is-ready room = ready-left room (stateAfter b h F m) (after-well .0) (after-well .1) told

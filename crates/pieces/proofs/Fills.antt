@@ -2,7 +2,7 @@
 use mathlib.Core.Path.{_≡_, refl, sym, ap, _∙_}
 use mathlib.Core.Bool.{true, false}
 use mathlib.Core.List.{List, [], _∷_, _++_}
-use Prim.Native.Nat.{ℕ, zero, suc, _+_, _-_, _/_, _≤_, _<_}
+use Prim.Native.Nat.{ℕ, zero, suc, _+_, _-_, _/_, _^_, _≤_, _<_}
 use native.Mathlib.Nat.{zero-add, add-zero}
 use native.Mathlib.Omega.{arith}
 use borrow.Author.Tests.{le-leb, lt-ltb, lt-leb, eq-eqb, ne-eqb, eqb-true, eqb-false}
@@ -21,12 +21,14 @@ use Rattle.format.specs.Decide.{Out, stop, give, widthOf, grown}
 use Rattle.format.specs.Reading.{taken}
 use Rattle.format.specs.Step.{assoc, dynamics, forString, forKey, forClass, forExternal, forName, forVector, Text, xmlText, tableText}
 use Rattle.format.specs.Step.{Raw, byteArray, rawVector, rawRow, Mode, atText, atRaw, wait, step, act, filling, rawGrown}
-use Rattle.format.specs.Numbers.{Held, held, work, modeOf, useWork, workOf, framesOf, lentOf, sound, depthFits, framesSize}
+use Rattle.format.specs.Numbers.{Held, held, work, modeOf, useWork, workOf, framesOf, lentOf, sound, pairsFit, depthFits, framesSize}
 use Rattle.format.specs.Answers.{runHeld, takenBy}
 use Rattle.format.proofs.Tests.{on-bool}
 use Rattle.format.proofs.States.{mode-of}
 use Rattle.format.proofs.Used.{ModeIn, Counts}
 use Rattle.format.proofs.Shows.{good-sound, good-waits}
+use Rattle.wire.proofs.Octets.{Bytes}
+use Rattle.states.specs.Ends.{hasEnded}
 use Rattle.format.proofs.Stores.{place, stored-there}
 use Rattle.decide.specs.Outcomes.{leaving}
 use Rattle.resume.specs.declared.Next.the-variants.{Wait}
@@ -35,9 +37,9 @@ use Rattle.states.specs.Purposes.{IsRaw}
 use Rattle.resume.proofs.Settled as answer
 use Rattle.states.proofs.Purposes.{between, purposed, textOf, rawOf}
 use Rattle.states.proofs.Modes.{mode-text, mode-raw, fits-text, fits-raw, no-mode}
-use Rattle.pieces.specs.States.{headOf, hasEnded, stateAfter, waiting, Ready, workPast, rowsPast, rowsAfter}
+use Rattle.pieces.specs.States.{headOf, stateAfter, waiting, Ready, Nearly, workPast, rowsPast, rowsAfter}
 use Rattle.pieces.proofs.Steps.{further, stepped-on, deep-enough}
-use Rattle.pieces.proofs.Bytes.{runs-byte, takes-byte, is-ready}
+use Rattle.pieces.proofs.Bytes.{nearly-ready, pairs-hold, runs-byte, takes-byte, is-ready}
 use Rattle.format.specs.Codes.{modeText, modeRaw}
 
 -- ---- a work that goes on
@@ -105,7 +107,8 @@ module _ (depth : ℕ) (F T O U N : List ℕ) (room : length F ≡ framesSize) (
   runs-none : (w : Work) (c : Cursor) (R B : List ℕ) → Stands w c R B → Runs (holding w c R B) [] w c R B
   runs-none w c R B s = record { stands = s; runs = λ rest. refl; takes = λ rest. sym (zero-add _) }
 
-  module _ (b : ℕ) (x x′ : Mode) (c : Cursor) (R B R′ B′ : List ℕ) (s : Stands (workOf x) c R B)
+  module _ (b : ℕ) (octet : b < 2 ^ 8) (x x′ : Mode) (c : Cursor) (R B R′ B′ : List ℕ) (s : Stands (workOf x) c R B)
+      (pairs : pairsFit c x ≡ pairsFit (taken c) x′)
       (acts : step b (wait x (framesOf F depth) c (loans R B)) ≡ wait x′ (framesOf F depth) (taken c) (loans R′ B′)) where
     abbrev hd : Head
     hd = headOf l (Wait (workOf x) c depth)
@@ -117,7 +120,10 @@ module _ (depth : ℕ) (F T O U N : List ℕ) (room : length F ≡ framesSize) (
         (answer.waits F depth (taken c) (loans R′ B′) (workOf x′) x′ refl ∙ ap (afterOf F) (rw (mode-of x) (sym acts)))
 
     stands-next : Stands (workOf x′) (taken c) R′ B′
-    stands-next = let r = is-ready b hd F (loans R B) (workOf x′) (taken c) depth F (loans R′ B′) told room in (r .0, r .1 ∙ s .1)
+    stands-next =
+        let r = is-ready b octet hd F (loans R B) (workOf x′) (taken c) depth F (loans R′ B′) told room in
+        let e : pairsFit c x ≡ true = rw (mode-of x) at (pairs-hold (workOf x) c depth F (loans R B) (s .0)) in
+        (nearly-ready (workOf x′) (taken c) depth F (loans R′ B′) (r .0) (rw (mode-of x′) (sym pairs ∙ e)), r .1 ∙ s .1)
 
     runs-more : (bs : List ℕ) (v : Work) (d : Cursor) (P Q : List ℕ) → Runs (holding (workOf x′) (taken c) R′ B′) bs v d P Q
         → Runs (holding (workOf x) c R B) (b ∷ bs) v d P Q
@@ -125,9 +131,9 @@ module _ (depth : ℕ) (F T O U N : List ℕ) (room : length F ≡ framesSize) (
     runs-more bs v d P Q k =
         record {
           stands = k .stands;
-          runs = λ rest. runs-byte b hd F (loans R B) refl room (Wait (workOf x′) (taken c) depth) F (loans R′ B′) told (bs ++ rest) ∙ k .runs rest;
+          runs = λ rest. runs-byte b octet hd F (loans R B) refl room (Wait (workOf x′) (taken c) depth) F (loans R′ B′) told (bs ++ rest) ∙ k .runs rest;
           takes = λ rest.
-              takes-byte b hd F (loans R B) refl room (Wait (workOf x′) (taken c) depth) F (loans R′ B′) told (bs ++ rest) ∙ rw (k .takes rest) (omega arith);
+              takes-byte b octet hd F (loans R B) refl room (Wait (workOf x′) (taken c) depth) F (loans R′ B′) told (bs ++ rest) ∙ rw (k .takes rest) (omega arith);
         }
 
   -- the same numbers, and the same lists
@@ -146,32 +152,42 @@ module _ (depth : ℕ) (F T O U N : List ℕ) (room : length F ≡ framesSize) (
 
   -- ---- a text
 
+  text-pairs : (y : Text) (p : Span) (n n′ t t′ : ℕ) (c : Cursor) → pairsFit c (atText y p n t) ≡ pairsFit (taken c) (atText y p n′ t′)
+  text-pairs (xmlText row) p n n′ t t′ c = refl
+  text-pairs (tableText (forString row)) p n n′ t t′ c = refl
+  text-pairs (tableText (forKey (assoc row left done))) p n n′ t t′ c = refl
+  text-pairs (tableText (forKey (dynamics row done))) p n n′ t t′ c = refl
+  text-pairs (tableText (forClass row names y)) p n n′ t t′ c = refl
+  text-pairs (tableText forExternal) p n n′ t t′ c = refl
+  text-pairs (tableText (forName row y more)) p n n′ t t′ c = refl
+  text-pairs (tableText (forVector row entries)) p n n′ t t′ c = refl
+
   text-acts : (b : ℕ) (y : Text) (p : Span) (n t : ℕ) (c : Cursor) (R B : List ℕ) → Stands (workOf (atText y p (suc n) t)) c R B → c .at < messageLimit
       → step b (wait (atText y p (suc n) t) (framesOf F depth) c (loans R B))
       ≡ wait (atText y p n (stepOf t b)) (framesOf F depth) (taken c) (loans R (set B (place p (suc n)) b))
   unfolding step act lentOf
   text-acts b y p n t c R B s f =
-      let (k, ((i, sp), low)) = used-in (atText y p (suc n) t) c R B s in
+      let (k, ((i, (sp, low)), _)) = used-in (atText y p (suc n) t) c R B s in
       rw (lt-leb messageLimit (c .at) f, stored-there p (suc n) b B (taken c) sp (omega arith) low)
 
-  text-runs : (bs : List ℕ) (y : Text) (p : Span) (n t : ℕ) (c : Cursor) (R B : List ℕ) → Stands (workOf (atText y p n t)) c R B
+  text-runs : (bs : List ℕ) → Bytes bs → (y : Text) (p : Span) (n t : ℕ) (c : Cursor) (R B : List ℕ) → Stands (workOf (atText y p n t)) c R B
       → length bs ≤ n → c .at + length bs ≤ messageLimit
       → Runs (holding (workOf (atText y p n t)) c R B) bs (workOf (atText y p (n - length bs) (foldOf t bs))) (further c (c .at + length bs)) R (sets B (place p n) bs)
   unfolding foldOf
-  text-runs [] y p n t c R B s h f =
+  text-runs [] o y p n t c R B s h f =
       let e : n - 0 ≡ n = omega arith in
       rw (e, add-zero (c .at)) (runs-none (workOf (atText y p n t)) c R B s)
-  text-runs (b ∷ bs) y p zero t c R B s h f = absurd (omega arith)
-  text-runs (b ∷ bs) y p (suc n) t c R B s h f =
-      let (k, (i, low)) = used-in (atText y p (suc n) t) c R B s in
+  text-runs (b ∷ bs) o y p zero t c R B s h f = absurd (omega arith)
+  text-runs (b ∷ bs) o y p (suc n) t c R B s h f =
+      let (k, ((i, (sp, low)), _)) = used-in (atText y p (suc n) t) c R B s in
       let e1 : suc n - suc (length bs) ≡ n - length bs = omega arith in
       let e2 : c .at + suc (length bs) ≡ suc (c .at) + length bs = omega arith in
       let e3 : suc (place p (suc n)) ≡ place p n = omega arith in
       let a : step b (wait (atText y p (suc n) t) (framesOf F depth) c (loans R B))
       ≡ wait (atText y p n (stepOf t b)) (framesOf F depth) (taken c) (loans R (set B (place p (suc n)) b)) = text-acts b y p n t c R B s (omega arith) in
-      runs-more b (atText y p (suc n) t) (atText y p n (stepOf t b)) c R B R (set B (place p (suc n)) b) s a bs _ _ _ _
-      (rw (e1, e2, e3) (text-runs bs y p n (stepOf t b) (taken c) R (set B (place p (suc n)) b)
-      (stands-next b (atText y p (suc n) t) (atText y p n (stepOf t b)) c R B R (set B (place p (suc n)) b) s a) (omega arith) (omega arith)))
+      runs-more b (o 0) (atText y p (suc n) t) (atText y p n (stepOf t b)) c R B R (set B (place p (suc n)) b) s (text-pairs y p (suc n) n t (stepOf t b) c) a bs _ _ _ _
+      (rw (e1, e2, e3) (text-runs bs (λ i. o (suc i)) y p n (stepOf t b) (taken c) R (set B (place p (suc n)) b)
+      (stands-next b (o 0) (atText y p (suc n) t) (atText y p n (stepOf t b)) c R B R (set B (place p (suc n)) b) s (text-pairs y p (suc n) n t (stepOf t b) c) a) (omega arith) (omega arith)))
 
   -- ---- a raw body
 
@@ -180,43 +196,43 @@ module _ (depth : ℕ) (F T O U N : List ℕ) (room : length F ≡ framesSize) (
       ≡ wait (atRaw r p n) (framesOf F depth) (taken c) (loans (grew r p (suc n) R) (set B (place p (suc n)) b))
   unfolding step act filling rawGrown grown lentOf
   raw-acts b (byteArray row) p n c R B s f =
-      let (k, ((i, sp), low)) = used-in (atRaw (byteArray row) p (suc n)) c R B s in
+      let (k, (i, (sp, low))) = used-in (atRaw (byteArray row) p (suc n)) c R B s in
       rw (lt-leb messageLimit (c .at) f, stored-there p (suc n) b B (taken c) sp (omega arith) low)
   raw-acts b (rawVector row w) p n c R B s f =
-      let (k, ((i, sp), low)) = used-in (atRaw (rawVector row w) p (suc n)) c R B s in
+      let (k, (i, (sp, low))) = used-in (atRaw (rawVector row w) p (suc n)) c R B s in
       rw (lt-leb messageLimit (c .at) f, stored-there p (suc n) b B (taken c) sp (omega arith) low)
       (rw (lt-ltb row (c .rows) i, le-leb (c .rows) (length R / rowWidth) (omega arith)))
 
   -- a byte, and what follows it
-  raw-more : (b : ℕ) (r : Raw) (p : Span) (n : ℕ) (c : Cursor) (R B : List ℕ) → Stands (workOf (atRaw r p (suc n))) c R B → c .at < messageLimit
+  raw-more : (b : ℕ) → b < 2 ^ 8 → (r : Raw) (p : Span) (n : ℕ) (c : Cursor) (R B : List ℕ) → Stands (workOf (atRaw r p (suc n))) c R B → c .at < messageLimit
       → (bs : List ℕ) (v : Work) (d : Cursor) (P Q : List ℕ)
       → (Stands (workOf (atRaw r p n)) (taken c) (grew r p (suc n) R) (set B (place p (suc n)) b)
       → Runs (holding (workOf (atRaw r p n)) (taken c) (grew r p (suc n) R) (set B (place p (suc n)) b)) bs v d P Q)
       → Runs (holding (workOf (atRaw r p (suc n))) c R B) (b ∷ bs) v d P Q
-  raw-more b r p n c R B s f bs v d P Q more =
+  raw-more b o r p n c R B s f bs v d P Q more =
       let a = raw-acts b r p n c R B s f in
-      runs-more b (atRaw r p (suc n)) (atRaw r p n) c R B (grew r p (suc n) R) (set B (place p (suc n)) b) s a bs v d P Q
-      (more (stands-next b (atRaw r p (suc n)) (atRaw r p n) c R B (grew r p (suc n) R) (set B (place p (suc n)) b) s a))
+      runs-more b o (atRaw r p (suc n)) (atRaw r p n) c R B (grew r p (suc n) R) (set B (place p (suc n)) b) s refl a bs v d P Q
+      (more (stands-next b o (atRaw r p (suc n)) (atRaw r p n) c R B (grew r p (suc n) R) (set B (place p (suc n)) b) s refl a))
 
-  raw-runs : (b : ℕ) (bs : List ℕ) (r : Raw) (p : Span) (n : ℕ) (c : Cursor) (R B : List ℕ) → Stands (workOf (atRaw r p n)) c R B
+  raw-runs : (b : ℕ) (bs : List ℕ) → Bytes (b ∷ bs) → (r : Raw) (p : Span) (n : ℕ) (c : Cursor) (R B : List ℕ) → Stands (workOf (atRaw r p n)) c R B
       → suc (length bs) ≤ n → c .at + suc (length bs) ≤ messageLimit
       → Runs (holding (workOf (atRaw r p n)) c R B) (b ∷ bs) (workOf (atRaw r p (n - suc (length bs)))) (further c (c .at + suc (length bs))) (grew r p (n - length bs) R)
       (sets B (place p n) (b ∷ bs))
-  raw-runs b bs r p zero c R B s h f = absurd (omega arith)
-  raw-runs b [] r p (suc n) c R B s h f =
+  raw-runs b bs o r p zero c R B s h f = absurd (omega arith)
+  raw-runs b [] o r p (suc n) c R B s h f =
       let e1 : suc n - 1 ≡ n = omega arith in
       let e2 : c .at + 1 ≡ suc (c .at) = omega arith in
       let e3 : suc n - 0 ≡ suc n = omega arith in
-      raw-more b r p n c R B s (omega arith) [] _ _ _ _ (λ s′. rw (e1, e2, e3) (runs-none (workOf (atRaw r p n)) (taken c) (grew r p (suc n) R) (set B (place p (suc n)) b) s′))
-  raw-runs b (v ∷ vs) r p (suc n) c R B s h f =
-      let (k, (i, low)) = used-in (atRaw r p (suc n)) c R B s in
+      raw-more b (o 0) r p n c R B s (omega arith) [] _ _ _ _ (λ s′. rw (e1, e2, e3) (runs-none (workOf (atRaw r p n)) (taken c) (grew r p (suc n) R) (set B (place p (suc n)) b) s′))
+  raw-runs b (v ∷ vs) o r p (suc n) c R B s h f =
+      let (k, (i, (sp, low))) = used-in (atRaw r p (suc n)) c R B s in
       let e1 : suc n - suc (suc (length vs)) ≡ n - suc (length vs) = omega arith in
       let e2 : c .at + suc (suc (length vs)) ≡ suc (c .at) + suc (length vs) = omega arith in
       let e3 : suc (place p (suc n)) ≡ place p n = omega arith in
       let e4 : suc n - suc (length vs) ≡ n - length vs = omega arith in
-      raw-more b r p n c R B s (omega arith) (v ∷ vs) _ _ _ _ (λ s′.
+      raw-more b (o 0) r p n c R B s (omega arith) (v ∷ vs) _ _ _ _ (λ s′.
       rw (e1, e2, e3, e4, ← grew-over r p (n - length vs) (suc n) R)
-      (raw-runs v vs r p n (taken c) (grew r p (suc n) R) (set B (place p (suc n)) b) s′ (omega arith) (omega arith)))
+      (raw-runs v vs (λ i. o (suc i)) r p n (taken c) (grew r p (suc n) R) (set B (place p (suc n)) b) s′ (omega arith) (omega arith)))
 
   -- ---- by the numbers of the work
 
@@ -242,20 +258,20 @@ module _ (depth : ℕ) (F T O U N : List ℕ) (room : length F ≡ framesSize) (
     pub spans : (w .span .begin + w .span .size ≤ length B) × (w .left < w .span .size)
     unfolding lentOf
     spans = on-bool (eqb (w .mode) modeText)
-        (λ e. let (k, ((i, sp), low)) = used w _ c R B (is-text (eqb-true (w .mode) 5 e)) s in (omega arith, low))
-        (λ e. let (k, ((i, sp), low)) = used w _ c R B (raw-mode (eqb-false (w .mode) 5 e)) s in (omega arith, low))
+        (λ e. let (k, ((i, (sp, low)), _)) = used w _ c R B (is-text (eqb-true (w .mode) 5 e)) s in (omega arith, low))
+        (λ e. let (k, (i, (sp, low))) = used w _ c R B (raw-mode (eqb-false (w .mode) 5 e)) s in (omega arith, low))
 
     -- the count of a vector follows the last byte
     rows-past : (w .mode ≡ modeText → ⊥) → (k : ℕ) → k < w .left → grew (rawOf (w .purpose) (w .row)) (w .span) (w .left - k) R ≡ rowsPast w c (suc k) R
     unfolding lentOf
     rows-past n k h =
-        let (counts, ((i, sp), low)) = used w _ c R B (raw-mode n) s in
+        let (counts, (i, (sp, low))) = used w _ c R B (raw-mode n) s in
         let row : w .row < c .rows = rw (row-of w (is-raw n)) at i in
         let u : rowUsed R c (w .row) ≡ true = rw (lt-ltb (w .row) (c .rows) row, le-leb (c .rows) (length R / rowWidth) (omega arith)) in
         let e : w .left - suc k + 1 ≡ w .left - k = omega arith in
         rw (ne-eqb (w .mode) modeText n, e) (sym (rows-grew w (is-raw n) (w .left - k) R c u))
 
-    module _ (b : ℕ) (bs : List ℕ) (w′ : Work) (R′ B′ : List ℕ) (most : suc (length bs) ≤ w .left) (fits : c .at + suc (length bs) ≤ messageLimit)
+    module _ (b : ℕ) (bs : List ℕ) (octets : Bytes (b ∷ bs)) (w′ : Work) (R′ B′ : List ℕ) (most : suc (length bs) ≤ w .left) (fits : c .at + suc (length bs) ≤ messageLimit)
         (eB : B′ ≡ sets B (w .span .begin + (w .span .size - (w .left + 1))) (b ∷ bs)) (ew : w′ ≡ workPast w (suc (length bs)) (b ∷ bs))
         (eR : R′ ≡ rowsPast w c (suc (length bs)) R) where
       at-place : sets B (place (w .span) (w .left)) (b ∷ bs) ≡ B′
@@ -270,7 +286,7 @@ module _ (depth : ℕ) (F T O U N : List ℕ) (room : length F ≡ framesSize) (
           runs-as (workOf (atText y (w .span) (w .left) (w .part))) w (workOf (atText y (w .span) k t)) w′ c (further c (c .at + suc (length bs))) (b ∷ bs) R B R R′
           (sets B (place (w .span) (w .left)) (b ∷ bs)) B′ v
           (text-going y (w .span) (w .left) (w .part) k t ∙ ap (λ (u : Work). going u k t) v ∙ sym (rw e at ew)) (sym (rw e at eR)) at-place
-          (text-runs (b ∷ bs) y (w .span) (w .left) (w .part) c R B (rw v s) most fits)
+          (text-runs (b ∷ bs) octets y (w .span) (w .left) (w .part) c R B (rw v s) most fits)
 
       past-raw : eqb (w .mode) modeText ≡ false → Runs (holding w c R B) (b ∷ bs) w′ (further c (c .at + suc (length bs))) R′ B′
       past-raw e =
@@ -281,17 +297,17 @@ module _ (depth : ℕ) (F T O U N : List ℕ) (room : length F ≡ framesSize) (
           runs-as (workOf (atRaw r (w .span) (w .left))) w (workOf (atRaw r (w .span) k)) w′ c (further c (c .at + suc (length bs))) (b ∷ bs) R B
           (grew r (w .span) (w .left - length bs) R) R′ (sets B (place (w .span) (w .left)) (b ∷ bs)) B′ v
           (raw-going r (w .span) (w .left) k ∙ ap (λ (u : Work). going u k (u .part)) v ∙ sym (rw e at ew)) (rows-past n (length bs) (omega arith) ∙ sym eR) at-place
-          (raw-runs b bs r (w .span) (w .left) c R B (rw v s) most fits)
+          (raw-runs b bs octets r (w .span) (w .left) c R B (rw v s) most fits)
 
       past-some : Runs (holding w c R B) (b ∷ bs) w′ (further c (c .at + suc (length bs))) R′ B′
       past-some = on-bool (eqb (w .mode) modeText) past-text past-raw
 
-    pub past : (bs : List ℕ) (k : ℕ) (w′ : Work) (R′ B′ : List ℕ) → length bs ≡ k → 0 < k → k ≤ w .left → c .at + k ≤ messageLimit
+    pub past : (bs : List ℕ) → Bytes bs → (k : ℕ) (w′ : Work) (R′ B′ : List ℕ) → length bs ≡ k → 0 < k → k ≤ w .left → c .at + k ≤ messageLimit
         → B′ ≡ sets B (w .span .begin + (w .span .size - (w .left + 1))) bs → w′ ≡ workPast w k bs → R′ ≡ rowsPast w c k R
         → Runs (holding w c R B) bs w′ (further c (c .at + k)) R′ B′
-    past [] k w′ R′ B′ e some most fits eB ew eR = absurd (omega arith)
-    past (b ∷ bs) k w′ R′ B′ e some most fits eB ew eR =
-        rw (← e) (past-some b bs w′ R′ B′ (omega arith) (omega arith) eB (rw (← e) at ew) (rw (← e) at eR))
+    past [] o k w′ R′ B′ e some most fits eB ew eR = absurd (omega arith)
+    past (b ∷ bs) o k w′ R′ B′ e some most fits eB ew eR =
+        rw (← e) (past-some b bs o w′ R′ B′ (omega arith) (omega arith) eB (rw (← e) at ew) (rw (← e) at eR))
 
 -- ---- what `fill` does to the work and the rows
 

@@ -2,12 +2,12 @@
 use mathlib.Core.Bool.{Bool, true, false, cond}
 use mathlib.Core.List.{List, [], _∷_}
 use Prim.Native.Nat.{ℕ, zero, suc, _+_, _*_, _-_}
-use lib.Dec.{leb, eqb}
+use lib.Dec.{eqb}
 use lib.ListN.{length}
 use Rattle.rows.specs.declared.Cursor.{Cursor}
 use Rattle.rows.specs.declared.Span.{Span}
 use Rattle.rows.specs.declared.Trait.{Trait}
-use Rattle.rows.specs.Memory.{Memory, messageLimit, openLimit, colCount, colCount2, noSpan}
+use Rattle.rows.specs.Memory.{Memory, openLimit, colCount, colCount2, noSpan}
 use Rattle.wire.specs.declared.Part.{Part}
 use Rattle.wire.specs.declared.Part.the-variants.{More, Whole, Astray}
 use Rattle.wire.specs.declared.Size.{Size}
@@ -22,12 +22,12 @@ use Rattle.format.specs.declared.Frame.{Frame}
 use Rattle.format.specs.Decide.{Out, stop, give, Decision, looking, onRows, onStore, onStrings, onObjects, onTraits, onNames, Width, widthOf}
 use Rattle.format.specs.Decide.{Body, xml, date, array, bytes, raw, objects, dictionary, Kind, leaf, integer, double, string, object, sized}
 use Rattle.format.specs.Decide.{kindOf, marker, closed, numbered, integerEnd, dateEnd, bodied, objectClass, vectorClass, fixed, weak, flagged}
-use Rattle.format.specs.Decide.{counted, oldText, reserved, stored, judged, textEnd, entered, referred, oldTrait, traitOf, named, traitEnd, sealedKey, starred}
+use Rattle.format.specs.Decide.{counted, keyEnd, oldText, reserved, stored, judged, textEnd, entered, referred, oldTrait, traitOf, named, traitEnd, sealedKey, starred}
 use Rattle.format.specs.Step.{Pairing, assoc, dynamics, Items, dense, vector, countOf, Task, pairsOf, itemsOf, membersOf, keysOf, valuesOf, strange, taskOf, frameOf}
 use Rattle.format.specs.Step.{Use, forString, forKey, forClass, forExternal, forName, forVector, Text, xmlText, tableText}
 use Rattle.format.specs.Step.{Word, integerWord, objectWord, sizeWord, textWord, Number, doubleBits, dateBits, Flag, rawFlag, objectsFlag, dictionaryFlag}
 use Rattle.format.specs.Step.{Raw, byteArray, rawVector, rawRow, Mode, atMarker, atWord, atNumber, atFlag, atText, atRaw, astray, State, wait, over, none}
-use Rattle.format.specs.Step.{on, broken, atString, nextKey, go, entry, pop, onward, ends, keyed, members, naming, had, textDone, reservedFor, stringSized}
+use Rattle.format.specs.Step.{on, broken, atString, shown, go, entry, pop, onward, ends, keyed, members, naming, had, textDone, reservedFor, stringSized}
 use Rattle.format.specs.Step.{roomy, texting, filling, opened, bodySized, objectShaped, worded, numberDone, flagDone, rawGrown, begun, onPart, act}
 
 abbrev pub Going : State → Type 0
@@ -39,22 +39,14 @@ on-going : {A : Type 0} (o : Out Memory A) (m : Memory) (f : A → Cursor → Me
 on-going (stop n told place) m f h = tt
 on-going (give a m c) _ f h = h a c m
 
-key-going : (t : Bool) (m : Memory) (x : Mode) (ts : List Frame) (c : Cursor) → Going (cond t (broken m) (wait x ts c m))
-key-going true m x ts c = tt
-key-going false m x ts c = tt
-
-next-going : (done : ℕ) (p : Pairing) (ts : List Frame) (c : Cursor) (m : Memory) → Going (nextKey done p ts c m)
-next-going done p ts c m = key-going (leb messageLimit done) m (atString (forKey p)) ts c
-
 go-going : (k : Cursor → Memory → State) → ((c : Cursor) (m : Memory) → Going (k c m)) → (ts : List Frame) (t : Task) (c : Cursor) (m : Memory)
     → Going (go k ts t c m)
 unfolding go
-go-going k h ts (pairsOf (assoc row n done)) c m = next-going done (assoc row n done) ts c m
-go-going k h ts (pairsOf (dynamics row done)) c m = next-going done (dynamics row done) ts c m
+go-going k h ts (pairsOf p) c m = tt
 go-going k h ts (itemsOf i row zero done) c m = on-going (onRows (closed row) m c) m (λ x c m. k c m) (λ x c m. h c m)
 go-going k h ts (itemsOf i row (suc n) done) c m = tt
 go-going k h ts (membersOf row zero done first zero) c m = on-going (onRows (closed row) m c) m (λ x c m. k c m) (λ x c m. h c m)
-go-going k h ts (membersOf row zero done first (suc y)) c m = next-going 0 (dynamics row 0) ts c m
+go-going k h ts (membersOf row zero done first (suc y)) c m = tt
 go-going k h ts (membersOf row (suc n) done first y) c m =
     on-going (looking (λ m. sealedKey (first + done) (m .names)) m c) m (λ key c m. wait (atMarker key) (frameOf (membersOf row n done first y) ∷ ts) c m)
     (λ key c m. tt)
@@ -74,7 +66,8 @@ entry-going (itemsOf i row n done) c m f h =
     on-going (onRows (counted row (countOf i) done) m c) m (λ x. f (itemsOf i row n (suc done))) (λ x. h (itemsOf i row n (suc done)))
 entry-going (membersOf row n done first y) c m f h =
     on-going (onRows (counted row colCount done) m c) m (λ x. f (membersOf row n (suc done) first y)) (λ x. h (membersOf row n (suc done) first y))
-entry-going (keysOf row n done) c m f h = h (valuesOf row n done) c m
+entry-going (keysOf row n done) c m f h =
+    on-going (looking (λ m. keyEnd row done (m .rows)) m c) m (λ x. f (valuesOf row n done)) (λ x. h (valuesOf row n done))
 entry-going (valuesOf row n done) c m f h =
     on-going (onRows (counted row colCount done) m c) m (λ x. f (keysOf row n (suc done))) (λ x. h (keysOf row n (suc done)))
 entry-going strange c m f h = tt
@@ -156,7 +149,7 @@ module _ (ts : List Frame) where
   unfolding opened
   opened-going row xml n c m = roomy-going row n c m (λ s. texting ts row s n) (λ s. texting-going row s n)
   opened-going row date n c m = tt
-  opened-going row array n c m = next-going 0 (assoc row n 0) ts c m
+  opened-going row array n c m = tt
   opened-going row bytes n c m = roomy-going row n c m (λ s. filling ts (byteArray row) s n) (λ s. filling-going (byteArray row) s n)
   opened-going row (raw w) n c m = roomy-going row (n * widthOf w) c m (λ s. wait (atFlag (rawFlag row w s)) ts) (λ s c m. tt)
   opened-going row objects n c m = tt
@@ -214,7 +207,7 @@ module _ (ts : List Frame) where
   pub act-going : (x : Mode) (b : ℕ) (c : Cursor) (m : Memory) → Going (act x b ts c m)
   unfolding act
   act-going (atMarker k) b c m =
-      on-going (onRows (marker k (openLimit - length ts) b) m c) m (λ row. begun ts row (kindOf b)) (λ row. begun-going row (kindOf b))
+      on-going (onRows (marker (shown k) (openLimit - length ts) b) m c) m (λ row. begun ts row (kindOf b)) (λ row. begun-going row (kindOf b))
   act-going (atWord w left n) b c m =
       part-going (partOf left n b) m (λ n. wait (atWord w (left - 1) n) ts c m) (λ n. worded ts w n c m) (λ n. tt) (λ n. worded-going w n c m)
   act-going (atNumber d left n) b c m =

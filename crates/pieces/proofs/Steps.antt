@@ -14,26 +14,27 @@ use Rattle.format.specs.declared.Frame.{Frame}
 use Rattle.format.specs.Reading.{finished, refused, refusal, taken}
 use Rattle.format.specs.Step.{Mode, State, wait, over, none, broken, act, step}
 use Rattle.format.specs.Numbers.{held, byteStep, stepped, stateOf, afterStep, numbersOf, modeOf, framesOf, sound, soundStep, depthFits}
-use Rattle.format.specs.Numbers.{sameLent, lentOf, countsFit, modeFits}
+use Rattle.format.specs.Numbers.{sameLent, lentOf, countsFit, modeFits, pairsFit, finishable}
 use Rattle.format.proofs.Tests.{clash, both}
 use Rattle.decide.specs.declared.Refusal.{Refusal}
 use Rattle.resume.specs.declared.Next.{Next}
 use Rattle.resume.specs.declared.Next.the-variants.{Refused}
 use Rattle.resume.specs.Steps.{After, after, afterOf, settled, refusalOf}
 use Rattle.states.proofs.Frames.{length-frames}
-use Rattle.pieces.specs.States.{numbers, hasEnded, stateAfter, headOf, heldOf}
+use Rattle.pieces.specs.States.{numbers, stateAfter, headOf, heldOf}
+use Rattle.states.specs.Ends.{hasEnded}
 use Rattle.pieces.proofs.Going.{Going, act-going}
 use Rattle.format.specs.Codes.{statusWaiting, statusFinished, statusRefused}
 use Rattle.format.specs.Refusals as refusals
 use Rattle.rows.specs.Memory.{messageMost}
 
-fourth : (p q r s t u : Bool) → (p && q && r && s && t && u) ≡ true → s ≡ true
-fourth p q r s t u e = both (p && q && r) s (both (p && q && r && s) t (both (p && q && r && s && t) u e .0) .0) .1
+fourth : (p q r s t u v : Bool) → (p && q && r && s && t && u && v) ≡ true → s ≡ true
+fourth p q r s t u v e = both (p && q && r) s (both (p && q && r && s) t (both (p && q && r && s && t) u (both (p && q && r && s && t && u) v e .0) .0) .0) .1
 
 module _ (b : ℕ) (h : Head) (F : List ℕ) (m : Memory) where
   pub stays : hasEnded h ≡ true → held (numbers h F) m ≡ byteStep b (held (numbers h F) m)
   unfolding hasEnded byteStep stateOf
-  stays e = by (eqb (h .status) statusWaiting) (eqb (h .status) statusFinished) (eqb (h .status) statusRefused && leb refusals.badLoan (h .number) && leb (h .number) refusals.lost) e
+  stays e = by (eqb (h .status) statusWaiting) (eqb (h .status) statusFinished && finishable (h .cursor)) (eqb (h .status) statusRefused && refusals.sayable (h .number) (h .told) (h .place)) e
     where
       by : (t u v : Bool) → cond t false (u || v) ≡ true
           → held (numbers h F) m
@@ -46,7 +47,7 @@ module _ (b : ℕ) (h : Head) (F : List ℕ) (m : Memory) where
 
   pub goes : hasEnded h ≡ false → byteStep b (held (numbers h F) m) ≡ afterStep (numbers h F) (stateAfter b h F m)
   unfolding hasEnded byteStep stateOf stateAfter
-  goes e = by (eqb (h .status) statusWaiting) (eqb (h .status) statusFinished) (eqb (h .status) statusRefused && leb refusals.badLoan (h .number) && leb (h .number) refusals.lost) e
+  goes e = by (eqb (h .status) statusWaiting) (eqb (h .status) statusFinished && finishable (h .cursor)) (eqb (h .status) statusRefused && refusals.sayable (h .number) (h .told) (h .place)) e
     where
       by : (t u v : Bool) → cond t false (u || v) ≡ false
           → stepped (numbers h F) m b (cond t (wait (modeOf (h .work)) (framesOf F (h .depth)) (h .cursor) m)
@@ -108,7 +109,7 @@ module _ (b : ℕ) (h : Head) (F : List ℕ) (m : Memory) where
         let e : sound (h .lent) (modeOf (h .work)) (framesOf F (h .depth)) (h .cursor) m ≡ true = sym st ∙ f in
         let d : depthFits (modeOf (h .work)) (length (framesOf F (h .depth))) ≡ true =
         fourth (sameLent (lentOf m) (h .lent)) (eqb (faultOf m) 0) (leb (h .cursor .at) messageLimit) (depthFits (modeOf (h .work)) (length (framesOf F (h .depth))))
-        (countsFit (h .cursor) m) (modeFits (h .cursor) (modeOf (h .work))) e in
+        (countsFit (h .cursor) m) (modeFits (h .cursor) (modeOf (h .work))) (pairsFit (h .cursor) (modeOf (h .work))) e in
         rw (length-frames F (h .depth)) at d
 
 -- ---- a byte of a state that waits

@@ -13,7 +13,7 @@ use Rattle.format.specs.declared.Lent.{Lent}
 use Rattle.format.specs.declared.Work.{Work}
 use Rattle.format.specs.Decide.{Out, stop, give}
 use Rattle.format.specs.Step.{State, wait, broken}
-use Rattle.format.specs.Numbers.{Numbers, Held, held, head, noWork, work, modeOf, workOf, framesOf, lentOf, sound, soundStep}
+use Rattle.format.specs.Numbers.{Numbers, Held, held, head, noWork, work, modeOf, workOf, framesOf, lentOf, sound, soundStep, pairsFit}
 use Rattle.format.specs.Answers.{runHeld, takenBy}
 use Rattle.resume.specs.declared.Next.{Next}
 use Rattle.resume.specs.declared.Next.the-variants.{Wait, Finished, Refused}
@@ -23,10 +23,6 @@ use Rattle.format.specs.Refusals as refusals
 
 abbrev pub numbers : Head → List ℕ → Numbers
 numbers h F = record { head = h; frames = F }
-
--- finished, or refused by a number of ours
-unfoldable pub hasEnded : Head → Bool
-hasEnded h = cond (eqb (h .status) statusWaiting) false (eqb (h .status) statusFinished || (eqb (h .status) statusRefused && leb refusals.badLoan (h .number) && leb (h .number) refusals.lost))
 
 -- what a byte makes of a state that has not ended
 unfoldable pub stateAfter : ℕ → Head → List ℕ → Memory → State
@@ -68,6 +64,10 @@ waiting l w c depth F = numbers (headOf l (Wait w c depth)) F
 -- a sound state that waits, with no number in its work but those of its mode
 abbrev pub Ready : Work → Cursor → ℕ → List ℕ → Memory → Type 0
 Ready w c depth F m = (sound (lentOf m) (modeOf w) (framesOf F depth) c m ≡ true) × (workOf (modeOf w) ≡ w)
+
+-- one that may have more pairs done than rows are used: the next byte finds that
+abbrev pub Nearly : Work → Cursor → ℕ → List ℕ → Memory → Type 0
+Nearly w c depth F m = (sound (lentOf m) (modeOf w) (framesOf F depth) c m ≡ pairsFit c (modeOf w)) × (workOf (modeOf w) ≡ w)
 
 -- k of n bytes are none of them the last of a text or a raw body, nor past the limit
 abbrev pub Bulk : Work → Cursor → ℕ → ℕ → Type 0

@@ -24,29 +24,10 @@ ghost use Rattle.format.specs.Numbers.{lentOf, modeOf, held, byteStep};
 ghost use Rattle.format.specs.Numbers as n;
 ghost use Rattle.format.specs.Step as steps;
 ghost use Rattle.states.specs.Purposes.{IsRaw};
-ghost use Rattle.pieces.specs.States.{numbers, hasEnded, stateAfter, headOf, heldOf, costOf, ran, runOf, runPast, waiting, Ready, Bulk, workPast, rowsPast};
+ghost use Rattle.pieces.specs.States.{numbers, stateAfter, headOf, heldOf, costOf, ran, runOf, runPast, waiting, Nearly, Bulk, workPast, rowsPast};
 ghost use Rattle.format.specs.Codes.{modeText};
 
 // ---- the step
-
-// The state has ended: finished, or refused by a number of ours.
-pub fn has_ended(h: Head) -> bool
-    ensures { λ r. ⌜ r ≡ hasEnded h ⌝ }
-{
-    if h.status == statuses::WAITING {
-        return false;
-    }
-    if h.status == statuses::FINISHED {
-        return true;
-    }
-    if h.status != statuses::REFUSED {
-        return false;
-    }
-    if h.number < refusals::BAD_LOAN {
-        return false;
-    }
-    h.number <= refusals::LOST
-}
 
 // Byte `b` for a sound state that waits: refused with 11 where it has taken all.
 fn go_on(
@@ -208,7 +189,7 @@ pub fn step(
     ensures { λ r. ⌜ held (numbers r (now (frames .exit))) (atExit rows store strings objects traits names)
         ≡ byteStep b (held (numbers h (now (frames .entry))) (atEntry rows store strings objects traits names)) ⌝ }
 {
-    if has_ended(h) {
+    if states::has_ended(h) {
         return h;
     }
     let a = next(h, frames, rows, store, strings, objects, traits, names, b);
@@ -325,7 +306,7 @@ fn drive(
     names: &mut [usize],
     piece: &[u8],
 ) -> Went
-    requires { ⌜ Ready w0 c0 depth0 (now frames) (memory (now rows) (now store) (now strings) (now objects) (now traits) (now names)) × (0 < length (now piece)) ⌝ }
+    requires { ⌜ Nearly w0 c0 depth0 (now frames) (memory (now rows) (now store) (now strings) (now objects) (now traits) (now names)) × (0 < length (now piece)) ⌝ }
     ensures { λ r. ⌜ ran (heldOf (lentOf (atEntry rows store strings objects traits names))
         (settled (after (r .next) (now (frames .exit)) (atExit rows store strings objects traits names)))) (r .taken)
         ≡ runPast (held (waiting (lentOf (atEntry rows store strings objects traits names)) w0 c0 depth0 (now (frames .entry)))
@@ -337,6 +318,10 @@ fn drive(
     let mut w = w0;
     let mut i = 1;
     while i < piece.len() {
+        if !states::pairs_fit(c, w) {
+            let next = Next::Refused(decide::lost());
+            return Went { next, taken: i };
+        }
         let k = bulk(c, w, piece.len() - i);
         if 0 < k {
             w = fill(rows, store, c, w, piece, i, k);
@@ -388,7 +373,7 @@ pub fn run(
     if piece.len() == 0 {
         return Ran { head: h, taken: 0 };
     }
-    if has_ended(h) {
+    if states::has_ended(h) {
         return Ran { head: h, taken: 0 };
     }
     frame_numbers(frames);

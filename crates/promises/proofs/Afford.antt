@@ -13,7 +13,7 @@ use Rattle.rows.specs.declared.Cursor.{Cursor}
 use Rattle.rows.specs.declared.Span.{Span}
 use Rattle.rows.specs.declared.Key.{Key}
 use Rattle.rows.specs.declared.Trait.{Trait}
-use Rattle.rows.specs.Memory.{Memory, memory, messageLimit, colKind, colNumber, colEnd, colCount, colCount2, cell, put, rowUsed, noKey, keyOf, noSpan, traitWidth}
+use Rattle.rows.specs.Memory.{Memory, memory, colKind, colNumber, colEnd, colCount, colCount2, cell, put, rowUsed, noKey, keyOf, noSpan, traitWidth}
 use Rattle.rows.specs.Kinds.{kindReference}
 use Rattle.wire.specs.declared.Size.{Size}
 use Rattle.wire.specs.declared.Size.the-variants.{Old, New}
@@ -22,17 +22,18 @@ use Rattle.wire.specs.declared.Shape.the-variants.{Object, Known, External, Inl
 use Rattle.wire.specs.declared.Date.{Date}
 use Rattle.wire.specs.declared.Date.the-variants.{Millis, Refused}
 use Rattle.wire.specs.Word.{sizeOf, shapeOf}
+use Rattle.format.proofs.Own.{follows-is, size-is, object-is}
 use Rattle.wire.specs.Big.{numberOf}
 use Rattle.wire.specs.Date.{dateOf}
 use Rattle.utf8.specs.Grammar.{validText}
 use Rattle.format.specs.Decide as k
 use Rattle.format.specs.Decide.{Body, Kind, give, refuse, lost, Decision, lift, looking, onRows, onObjects, onTraits, inRow, kindOf}
-use Rattle.format.specs.Decide.{closed, referred, entered, sealedKey, counted, oldTrait, traitAt, traitEnd, traitHolds, traitOf, objectClass, traitsTo, widthOf}
+use Rattle.format.specs.Decide.{closed, referred, entered, sealedKey, counted, keyEnd, oldTrait, traitAt, traitEnd, traitHolds, traitOf, objectClass, traitsTo, widthOf}
 use Rattle.format.specs.Reading as our
 use Rattle.format.specs.Reading.{ResultOf, ok, bad, Result, Reader, bind, _>>=_, _>>_, ret, decided, by, Values}
 use Rattle.format.specs.Standard as std
 use Rattle.format.specs.Standard.{Traits, Tables, Std, fail, lookup, Plain, undefined, null, boolean, integer, double, string, xmlDocument, xml, byteArray, date}
-use Rattle.format.specs.Standard.{intVector, uintVector, doubleVector, given, starred, xmlOf, vectorOf, leafOf, enterTraits}
+use Rattle.format.specs.Standard.{intVector, uintVector, doubleVector, classGiven, starred, xmlOf, vectorOf, leafOf, enterTraits}
 use Rattle.format.specs.Standard.{Tree, plain, array, object, objectVector, dictionary, cons, Pairs, noPairs, pair, entry}
 use Rattle.format.specs.Holds.{Room, room, _and_, nothing, aRow, anObject, ofText, ofClass, ofPlain, ofTree, ofTrees, ofPairs, ofSealed, ofEntries}
 use Rattle.format.proofs.Memories.{numbers}
@@ -41,13 +42,13 @@ use Rattle.format.proofs.Parts.{depth, depthTrees, depthPairs, depthEntries}
 use Rattle.format.proofs.Fuel.{Takes, takes-bind, takes-ret, takes-less, takes-cond, takes-fail, takes-lookup, takes-change, byte-takes, bytes-takes}
 use Rattle.format.proofs.Fuel.{chars-takes, text-takes, names-takes, traits-takes, trees-take, sealed-takes, pairs-take, dynamics-take, entries-take, members-take}
 use Rattle.format.proofs.Fuel.{object-takes, sized-takes, marked-takes, value-takes, opened-takes, object-at-takes}
-use Rattle.format.proofs.Holds.{Fits, Uses, Within, Any, Decides, goes-by, in-row}
+use Rattle.format.proofs.Holds.{Fits, Uses, Within, Any, Decides, costless, costs, costs-cond, costs-lift, spent-none, goes-by, in-row}
 use Rattle.promises.proofs.Fares.{Nice, Paid, noTraits, Gives, gives-bind, gives-then, gives-ret, gives-fail, gives-up, gives-shut, Small, Pays}
 use Rattle.promises.proofs.Fares.{pays-bind, pays-told, pays-ret, pays-made, calm-ret, calm-shut, pays-opened, halts, stays, Spends, pays-free, pays-by}
 use Rattle.promises.proofs.Fares.{pays-flat, pays-end, pays-last, pays-lost, pays-flat-std, pays-less, pays-cursor, pays-void, pays-calm, paid-by, paid-lost}
 use Rattle.promises.proofs.Spends.{keeps-cond, None, Both, Sized, pays-byte, pays-word, pays-number, pays-filled, pays-chars-of, rests, spends, gives-weak}
 use Rattle.promises.proofs.Spends.{bytes-long, judgedText, pays-never, pays-text, small-trait, spends-closed, spends-numbered, spends-integer, spends-date}
-use Rattle.promises.proofs.Spends.{spends-bodied, spends-class, spends-type, spends-flagged, spends-counted, spends-grown, spends-marker, spends-reserved}
+use Rattle.promises.proofs.Spends.{spends-bodied, spends-class, spends-type, spends-flagged, spends-counted, spends-key-end, spends-grown, spends-marker, spends-reserved}
 use Rattle.promises.proofs.Spends.{spends-judged, spends-entered, spends-named, spends-sealed-key, spends-starred}
 use Rattle.format.specs.Refusals as refusals
 
@@ -80,8 +81,9 @@ spends-referred row i =
     record {
       goes = goes-by Any nothing (λ m. onRows (referred row i (m .objects)) m)
           (λ m c e. tests m c (ltb (length (m .objects)) (c .objects)) (leb (c .objects) i) (not (rowUsed (m .rows) c (getD (m .objects) i 0)))
-          (ltb (c .rows) (cell (m .rows) (getD (m .objects) i 0) colEnd)) (eqb (cell (m .rows) (getD (m .objects) i 0) colEnd) 0));
-      keeps = λ m c. search (keeps-cond, halts, stays, refl) depth 9;
+          (ltb (c .rows) (cell (m .rows) (getD (m .objects) i 0) colEnd)) (eqb (cell (m .rows) (getD (m .objects) i 0) colEnd) 0))
+          (λ m c. search (costs-lift, costs-cond, costless, costs, spent-none, tt) depth 10);
+      keeps = λ m c. search (keeps-cond, halts, stays) depth 9;
     }
   where
     tests : (m : Memory) (c : Cursor) (a b d e f : Bool) → Decides Any nothing m c
@@ -142,8 +144,8 @@ refer-pays left row i = pays-end _ (pays-free _ (object-at-takes i) (spends-refe
 -- ---- entries
 
 -- a class is no more than what it is written as
-pub given-room : (t : List ℕ) → Within (ofText t) (ofClass [] (given t))
-unfolding given ofClass
+pub given-room : (t : List ℕ) → Within (ofText t) (ofClass [] (classGiven t))
+unfolding classGiven ofClass
 given-room [] = omega arith
 given-room (b ∷ t) = omega arith
 
@@ -254,19 +256,24 @@ module _ (v : Values) (tree : Std Tree) (left : ℕ) (ih : (key : Key) → Pays 
       (λ a t e. pays-free _ (takes-bind (trees-take tree-takes n) (λ ts. takes-ret)) (spends-counted row col done)
       (λ x q. pays-made (λ ts. cons t ts) _ (calm-ret (λ ts. cons t ts)) (pays-trees row col n (suc done)) (λ ts. (omega arith, λ i. omega arith)) (λ a b e. tt))))
 
+  -- entries of a dictionary
   pays-entries : (row col n done : ℕ)
-      → Pays ofEntries (λ es. depthEntries es ≤ left) Both nothing (our.entries (λ done. v noKey >> v noKey) row col n done) (std.entries tree n)
-  unfolding our.entries std.entries ofEntries depthEntries
+      → Pays ofEntries (λ es. depthEntries es ≤ left) Both nothing (our.entries (our.couple v row) row col n done) (std.entries tree n)
+  unfolding our.entries our.couple std.entries ofEntries depthEntries
   pays-entries row col zero done = pays-ret (omega arith) tt
   pays-entries row col (suc n) done =
-      pays-flat (v noKey >> v noKey) (λ x. by (onRows (counted row col done))) (λ x. our.entries (λ done. v noKey >> v noKey) row col n (suc done))
-      (pays-flat (v noKey) (λ x. v noKey) (λ x. by (onRows (counted row col done)) >>= (λ x. our.entries (λ done. v noKey >> v noKey) row col n (suc done)))
+      let key : Decision Unit = looking (λ m. keyEnd row done (m .rows)) in
+      let more : Reader Unit = by (onRows (counted row col done)) >>= (λ x. our.entries (our.couple v row) row col n (suc done)) in
+      pays-flat (our.couple v row done) (λ x. by (onRows (counted row col done))) (λ x. our.entries (our.couple v row) row col n (suc done))
+      (pays-flat (v noKey >> by key) (λ x. v noKey) (λ x. more)
+      (pays-flat (v noKey) (λ x. by key) (λ x. v noKey >>= (λ x. more))
       (pays-bind ofTree _ _ (ih noKey) (λ t. omega arith)
       (λ a. gives-bind tree-takes (λ b. gives-bind (entries-take tree-takes n) (λ es. gives-ret (omega arith, λ i. omega arith))))
-      (λ x a e. pays-bind (λ b. ofTree a and ofTree b) _ _ (ih noKey) (λ b. omega arith)
+      (λ x a e. pays-free _ (takes-bind tree-takes (λ b. takes-bind (entries-take tree-takes n) (λ es. takes-ret))) (spends-key-end row done)
+      (λ x q. pays-bind (λ b. ofTree a and ofTree b) _ _ (ih noKey) (λ b. omega arith)
       (λ b. gives-bind (entries-take tree-takes n) (λ es. gives-ret (omega arith, λ i. omega arith)))
       (λ y b e. pays-free _ (takes-bind (entries-take tree-takes n) (λ es. takes-ret)) (spends-counted row col done)
-      (λ x q. pays-made (λ es. entry a b es) _ (calm-ret (λ es. entry a b es)) (pays-entries row col n (suc done)) (λ es. (omega arith, λ i. omega arith)) (λ a b e. tt))))))
+      (λ x q. pays-made (λ es. entry a b es) _ (calm-ret (λ es. entry a b es)) (pays-entries row col n (suc done)) (λ es. (omega arith, λ i. omega arith)) (λ a b e. tt))))))))
 
   pays-sealed : (row first : ℕ) (xs : List (List ℕ)) (n done : ℕ) → length xs ≡ n
       → Pays valuesCost (λ ps. depthPairs ps ≤ left) Both nothing
@@ -307,28 +314,37 @@ module _ (v : Values) (tree : Std Tree) (left : ℕ) (ih : (key : Key) → Pays 
       (λ a t e. pays-free _ (takes-bind (pairs-take tree-takes f) (λ ps. takes-ret)) (spends-counted row col done)
       (λ z q. pays-made (λ ps. pair (b ∷ x) t ps) _ (calm-ret (λ ps. pair (b ∷ x) t ps)) h (λ ps. (omega arith, λ i. omega arith)) (λ a b e. tt))))
 
-  pays-pairs : (row col most f done : ℕ)
-      → Pays ofPairs (λ ps. depthPairs ps ≤ left) Both nothing (our.pairs v row col most done) (std.pairs tree f)
-  unfolding our.pairs std.pairs
-  pays-pairs row col zero f done = pays-lost (pairs-take tree-takes f)
-  pays-pairs row col (suc most) zero done = pays-never
-  pays-pairs row col (suc most) (suc f) done =
+  -- pairs with any fuel, and with the one that ours are read with
+  pays-pairs-by : (row col most f done : ℕ)
+      → Pays ofPairs (λ ps. depthPairs ps ≤ left) Both nothing (our.pairsBy v row col most done) (std.pairs tree f)
+  unfolding our.pairsBy std.pairs
+  pays-pairs-by row col zero f done = pays-lost (pairs-take tree-takes f)
+  pays-pairs-by row col (suc most) zero done = pays-never
+  pays-pairs-by row col (suc most) (suc f) done =
       pays-bind ofText _ _ plain-text (λ x. omega arith) (λ x. from-gives f x)
-      (λ s x e. subst (λ n. Pays ofPairs (λ ps. depthPairs ps ≤ left) Both (ofText x) (our.pair v row col done (our.pairs v row col most (suc done)) s n)
+      (λ s x e. subst (λ n. Pays ofPairs (λ ps. depthPairs ps ≤ left) Both (ofText x) (our.pair v row col done (our.pairsBy v row col most (suc done)) s n)
       (std.pairsFrom tree (std.pairs tree f) x)) (sym e)
-      (one-pair row col f done s (our.pairs v row col most (suc done)) x (pays-pairs row col most f (suc done))))
+      (one-pair row col f done s (our.pairsBy v row col most (suc done)) x (pays-pairs-by row col most f (suc done))))
+
+  pays-pairs : (row col f : ℕ) → Pays ofPairs (λ ps. depthPairs ps ≤ left) Both nothing (our.pairs v row col 0) (std.pairs tree f)
+  unfolding our.pairs
+  pays-pairs row col f =
+      record {
+        takes = pairs-take tree-takes f;
+        pays = λ T m₀ c₀ k m c s p bs. pays-pairs-by row col (suc (length bs)) f 0 .pays T m₀ c₀ k m c s p bs;
+      }
 
   pays-dynamics : (row f y : ℕ) → Pays ofPairs (λ ps. depthPairs ps ≤ left) Both nothing (our.dynamics v row y) (std.dynamics tree f y)
   unfolding our.dynamics std.dynamics ofPairs
   pays-dynamics row f zero = pays-ret (omega arith) tt
-  pays-dynamics row f (suc y) = pays-pairs row colCount2 messageLimit f 0
+  pays-dynamics row f (suc y) = pays-pairs row colCount2 f
 
   -- ---- members
 
   members-give : (f i : ℕ) (t : Traits) → Gives (λ e. Within (traitCost t) (ofTree e)) (std.members tree f i t)
   unfolding std.members ofTree
   members-give f i t =
-      gives-then (sealed-gives (t .names)) (λ ps w. gives-bind (dynamics-take tree-takes f (t .dynamic)) (λ ys. gives-shut i (object (given (t .class)) ps ys)
+      gives-then (sealed-gives (t .names)) (λ ps w. gives-bind (dynamics-take tree-takes f (t .dynamic)) (λ ys. gives-shut i (object (classGiven (t .class)) ps ys)
       (let g = given-room (t .class) in omega arith)))
 
   pays-members : (row f i : ℕ) (x : Trait) (t : Traits) → x .count ≡ length (t .names) → x .dynamic ≡ t .dynamic
@@ -339,8 +355,8 @@ module _ (v : Values) (tree : Std Tree) (left : ℕ) (ih : (key : Key) → Pays 
       rw d (pays-last {P = Both} (λ a. onRows (closed row)) (λ a. spends-closed row)
       (pays-told (λ ps. Within (namesCost (t .names) and valuesCost ps) (ofSealed ps)) (λ ps. traitCost t and valuesCost ps) _ _ (sealed-gives (t .names))
       (pays-sealed row (x .first) (t .names) (x .count) 0 (sym e)) (λ ps w. omega arith)
-      (λ ps w. gives-bind (dynamics-take tree-takes f (t .dynamic)) (λ ys. gives-shut i (object (given (t .class)) ps ys) (omega arith, λ i. omega arith)))
-      (λ a ps z w. pays-made (λ ys. object (given (t .class)) ps ys) _ (calm-shut i (λ ys. object (given (t .class)) ps ys)) (pays-dynamics row f (t .dynamic))
+      (λ ps w. gives-bind (dynamics-take tree-takes f (t .dynamic)) (λ ys. gives-shut i (object (classGiven (t .class)) ps ys) (omega arith, λ i. omega arith)))
+      (λ a ps z w. pays-made (λ ys. object (classGiven (t .class)) ps ys) _ (calm-shut i (λ ys. object (classGiven (t .class)) ps ys)) (pays-dynamics row f (t .dynamic))
       (λ ys. (omega arith, λ i. omega arith)) (λ a b e. tt))))
 
   -- ---- objects
@@ -434,7 +450,7 @@ module _ (v : Values) (tree : Std Tree) (left : ℕ) (ih : (key : Key) → Pays 
   unfolding our.newOf std.newOf ofTree depth
   new-array row f b n =
       pays-last {P = Both} (λ a. onRows (closed row)) (λ a. spends-closed row)
-      (pays-bind (λ xs. anObject 0 and ofPairs xs) _ _ (pays-pairs row colCount messageLimit f 0) (λ xs. omega arith)
+      (pays-bind (λ xs. anObject 0 and ofPairs xs) _ _ (pays-pairs row colCount f) (λ xs. omega arith)
       (λ xs. gives-bind (trees-take tree-takes n) (λ ts. gives-ret (omega arith, λ i. omega arith)))
       (λ a xs e. pays-made (λ ts. array xs ts) _ (calm-ret (λ ts. array xs ts)) (pays-trees row colCount2 n 0) (λ ts. (omega arith, λ i. omega arith)) (λ a b e. tt)))
 
@@ -559,11 +575,11 @@ module _ (v : Values) (tree : Std Tree) (left : ℕ) (ih : (key : Key) → Pays 
       (λ t. gives-ret ((unfold ofTree ofPlain in omega arith), λ i. tt))
       (λ s t e. pays-free _ takes-ret (spends-bodied row s) (λ a q. pays-end _ (pays-free _ takes-ret (spends-closed row) (λ x q. pays-ret (unfold ofTree ofPlain in omega arith) tt))))
   pays-marked row f b k.object =
-      pays-bind (λ w. aRow) _ _ (pays-word 3 0) (λ w. omega arith) (λ w. gives-up (λ e. (tree-row e, λ i. tt)) (object-takes tree-takes f (shapeOf w)))
-      (λ a w e. rw e (pays-object row f (shapeOf w)))
+      pays-bind (λ w. aRow) _ _ (pays-word 3 0) (λ w. omega arith) (λ w. gives-up (λ e. (tree-row e, λ i. tt)) (object-takes tree-takes f (std.objectSays w)))
+      (λ a w e. rw (e, object-is w) (pays-object row f (shapeOf w)))
   pays-marked row f b (k.sized body) =
-      pays-bind (λ w. aRow) _ _ (pays-word 3 0) (λ w. omega arith) (λ w. gives-up (λ e. (tree-row e, λ i. tt)) (sized-takes tree-takes f b body (sizeOf w)))
-      (λ a w e. rw e (pays-sized row f b body (sizeOf w)))
+      pays-bind (λ w. aRow) _ _ (pays-word 3 0) (λ w. omega arith) (λ w. gives-up (λ e. (tree-row e, λ i. tt)) (sized-takes tree-takes f b body (std.sizeSays w)))
+      (λ a w e. rw (e, size-is w) (pays-sized row f b body (sizeOf w)))
 
 -- ---- a value
 
@@ -587,12 +603,12 @@ pays-value (suc left) f zero key = pays-never
 pays-value (suc left) f (suc d) key =
     pays-bind None _ _ pays-byte (λ b. omega arith) (λ b. gives-up (λ e. (omega arith, λ i. tt)) (rest b (ltb 0x11 b)))
     (λ a b e. rw e (pays-by aRow aRow _ (omega arith) (gives-up tree-row (rest b (ltb 0x11 b))) (spends-marker key left b)
-    (λ row q. known b row (ltb 0x11 b) (pays-marked (our.value left) (std.value f d) left (λ k. pays-value left f d k) row f b (kindOf b)))))
+    (λ row q. known b row (ltb 0x11 b) (rw (follows-is b) (pays-marked (our.value left) (std.value f d) left (λ k. pays-value left f d k) row f b (kindOf b))))))
   where
-    rest : (b : ℕ) (x : Bool) → Takes 0 (cond x (fail refusals.badMarker b) (std.marked (std.value f d) f b (kindOf b)))
-    rest b x = takes-cond x takes-fail (marked-takes (takes-less (value-takes f d)) f b (kindOf b))
+    rest : (b : ℕ) (x : Bool) → Takes 0 (cond x (fail refusals.badMarker b) (std.marked (std.value f d) f b (std.follows b)))
+    rest b x = takes-cond x takes-fail (marked-takes (takes-less (value-takes f d)) f b (std.follows b))
 
-    known : (b row : ℕ) (x : Bool) → Pays ofTree (Deep (suc left)) Both aRow (our.marked (our.value left) row (kindOf b)) (std.marked (std.value f d) f b (kindOf b))
-        → Pays ofTree (Deep (suc left)) Both aRow (our.marked (our.value left) row (kindOf b)) (cond x (fail refusals.badMarker b) (std.marked (std.value f d) f b (kindOf b)))
+    known : (b row : ℕ) (x : Bool) → Pays ofTree (Deep (suc left)) Both aRow (our.marked (our.value left) row (kindOf b)) (std.marked (std.value f d) f b (std.follows b))
+        → Pays ofTree (Deep (suc left)) Both aRow (our.marked (our.value left) row (kindOf b)) (cond x (fail refusals.badMarker b) (std.marked (std.value f d) f b (std.follows b)))
     known b row true h = pays-never
     known b row false h = h

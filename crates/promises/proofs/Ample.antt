@@ -14,7 +14,7 @@ use Rattle.format.proofs.Meaning.{reading-means}
 use Rattle.format.proofs.Parts.{depth}
 use Rattle.format.proofs.Size.{holds}
 use Rattle.format.proofs.Fuel.{value-takes}
-use Rattle.format.proofs.Holds.{Fits, limit}
+use Rattle.format.proofs.Holds.{Fits}
 use Rattle.format.proofs.Finishes.{Unlimited}
 use Rattle.promises.proofs.Fares.{Small, Nice, Paid}
 use Rattle.promises.proofs.Spends.{Both}

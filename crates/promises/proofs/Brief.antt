@@ -14,17 +14,17 @@ use Rattle.wire.specs.declared.Shape.{Shape}
 use Rattle.wire.specs.declared.Shape.the-variants.{Object, Known, External, Inline}
 use Rattle.wire.specs.declared.Date.{Date}
 use Rattle.wire.specs.declared.Date.the-variants.{Millis, Refused}
-use Rattle.wire.specs.Word.{sizeOf, shapeOf}
+use Rattle.format.specs.Standard.{keptText, classGiven, sizeSays, objectSays, follows}
 use Rattle.wire.specs.Big.{numberOf}
 use Rattle.wire.specs.Date.{dateOf}
 use Rattle.utf8.specs.Grammar.{validText}
 use Rattle.format.specs.Decide as k
-use Rattle.format.specs.Decide.{Kind, Body, kindOf, widthOf}
+use Rattle.format.specs.Decide.{Kind, Body, widthOf}
 use Rattle.format.specs.Reading as our
 use Rattle.format.specs.Reading.{ResultOf, ok, bad, bind, _>>=_, ret}
-use Rattle.format.specs.Standard.{Tree, plain, array, object, dictionary, Traits, Tables, Std, fail, lookup, change, byte, bytes}
-use Rattle.format.specs.Standard.{word, chars, entered, textOf, text, opened, shut, finishedObject, objectAt, names, newTraits, trees, sealed, pairsFrom, pairs}
-use Rattle.format.specs.Standard.{dynamics, entries, members, objectOf, dated, newOf, sizedOf, marked, value, standard, noTables, given, starred, leafOf}
+use Rattle.format.specs.Standard.{Tree, plain, object, Traits, Tables, Std, fail, lookup, change, byte, bytes}
+use Rattle.format.specs.Standard.{word, chars, textOf, text, opened, shut, finishedObject, objectAt, names, newTraits, trees, sealed, pairsFrom, pairs}
+use Rattle.format.specs.Standard.{dynamics, entries, members, objectOf, dated, newOf, sizedOf, marked, value, standard, noTables, starred, leafOf}
 use Rattle.format.specs.Holds.{Room, _and_, ofText, ofClass, ofPlain, ofTree, ofTrees, ofPairs, ofSealed, ofEntries, canHold}
 use Rattle.format.proofs.Loans.{lent}
 use Rattle.format.proofs.Size.{holds}
@@ -120,8 +120,8 @@ word-brief (suc left) n =
 abbrev texted : List ℕ → ℕ
 texted t = 4 + length t
 
-entered-brief : (n : ℕ) (t : List ℕ) → n ≤ length t → Brief n length (entered t)
-unfolding entered
+entered-brief : (n : ℕ) (t : List ℕ) → n ≤ length t → Brief n length (keptText t)
+unfolding keptText
 entered-brief n [] h = brief-ret h
 entered-brief n (b ∷ t) h = brief-change h
 
@@ -151,7 +151,7 @@ brief-after {B = B} {N₁ = N₁} {N = N} {g = g} a w h = record { brief = λ s 
 
 text-brief : Brief 0 texted text
 unfolding text
-text-brief = brief-bind (word-brief 3 0) (λ w. brief-after 4 (λ t. omega arith) (text-of-brief (sizeOf w)))
+text-brief = brief-bind (word-brief 3 0) (λ w. brief-after 4 (λ t. omega arith) (text-of-brief (sizeSays w)))
 
 opened-brief : Brief 0 (λ i. 0) opened
 unfolding opened
@@ -194,7 +194,7 @@ traits-brief : (n y : ℕ) → Brief 0 traitHeft (newTraits n y)
 unfolding newTraits
 traits-brief n y = brief-bind text-brief (λ x. brief-bind (names-brief n) (λ xs. brief-change (omega arith)))
 
-class-room : (t : List ℕ) → length t ≤ heft (ofClass [] (given t))
+class-room : (t : List ℕ) → length t ≤ heft (ofClass [] (classGiven t))
 class-room t = let w = given-room t in let h : length t ≤ ofText t .store = (unfold ofText in omega arith) in omega arith
 
 type-room : (t : List ℕ) → length t ≤ heft (ofClass (0x2A ∷ []) (starred t))
@@ -240,7 +240,7 @@ module _ (v : Std Tree) (h : Brief 0 treeHeft v) (sealedCost : (xs : List (List 
       let a = class-room (t .class) in
       let b = names-cost (t .names) in
       brief-told (λ ps. Within (namesCost (t .names) and valuesCost ps) (ofSealed ps)) (sealedCost (t .names) .gives) (sealed-brief (t .names))
-      (λ ps w. brief-bind (dynamics-brief f (t .dynamic)) (λ ys. shut-brief i (object (given (t .class)) ps ys) (omega arith)))
+      (λ ps w. brief-bind (dynamics-brief f (t .dynamic)) (λ ys. shut-brief i (object (classGiven (t .class)) ps ys) (omega arith)))
 
   object-brief : (f : ℕ) (z : Shape) → Brief 5 treeHeft (objectOf v f z)
   unfolding objectOf
@@ -285,15 +285,15 @@ module _ (v : Std Tree) (h : Brief 0 treeHeft v) (sealedCost : (xs : List (List 
   marked-brief f b k.integer = brief-bind (word-brief 3 0) (λ w. brief-ret (unfold ofTree ofPlain in omega arith))
   marked-brief f b k.double = brief-told (λ t. length t ≡ 8) (bytes-long 8 .gives) (bytes-brief 8) (λ t e. brief-ret (unfold ofTree ofPlain in omega arith))
   marked-brief f b k.string = brief-bind text-brief (λ t. brief-ret (unfold ofTree ofPlain ofText in omega arith))
-  marked-brief f b k.object = brief-bind (word-brief 3 0) (λ w. object-brief f (shapeOf w))
-  marked-brief f b (k.sized body) = brief-bind (word-brief 3 0) (λ w. sized-brief f b body (sizeOf w))
+  marked-brief f b k.object = brief-bind (word-brief 3 0) (λ w. object-brief f (objectSays w))
+  marked-brief f b (k.sized body) = brief-bind (word-brief 3 0) (λ w. sized-brief f b body (sizeSays w))
 
 value-brief : (f d : ℕ) → Brief 0 treeHeft (value f d)
 unfolding value
 value-brief f zero = brief-fail
 value-brief f (suc d) =
     brief-bind byte-brief (λ b. brief-cond (ltb 0x11 b) brief-fail
-    (marked-brief (value f d) (value-brief f d) (sealed-gives (our.value 0) (value f d) 0 (λ key. pays-value 0 f d key)) f b (kindOf b)))
+    (marked-brief (value f d) (value-brief f d) (sealed-gives (our.value 0) (value f d) 0 (λ key. pays-value 0 f d key)) f b (follows b)))
 
 -- ---- a message
 

@@ -1,21 +1,27 @@
--- The three demands, sentence by sentence, each with its theorem. The proofs stand in crate format, beside the definitions that they speak of.
+-- The three demands, sentence by sentence, each with its theorem. The proofs stand in crate format, beside the definitions that they speak of, and in this one.
+-- Where a theorem refuses a wrong program that keeps the others, it says so.
 use mathlib.Core.Path.{_≡_}
 use mathlib.Core.Bool.{true}
 use mathlib.Core.Logic.{_≢_}
 use mathlib.Core.List.{List, [], _∷_, _++_}
-use Prim.Native.Nat.{ℕ, suc, _≤_, _<_}
-use lib.ListN.{length, take, drop}
+use Prim.Native.Nat.{ℕ, suc, _+_, _*_, _^_, _≤_, _<_}
+use lib.Dec.{T}
+use lib.ListN.{length, take, drop, replicate}
 use Rattle.rows.specs.declared.Cursor.{Cursor}
 use Rattle.rows.specs.Memory.{Memory, fresh, zeroed, faultOf, messageLimit, openLimit, noKey}
 use Rattle.wire.proofs.Octets.{Bytes}
+use Rattle.format.specs.Refusals as no
 use Rattle.format.specs.declared.Answer.{Answer}
+use Rattle.format.specs.declared.Answer.the-variants.{Waiting, Finished, Refused}
+use Rattle.format.specs.declared.Written.the-variants.{Bytes as Written}
+use Rattle.format.specs.declared.Frame.{Frame}
 use Rattle.format.specs.Reading as reader
-use Rattle.format.specs.Reading.{ok, Ended, finished, refused, ended, unlessFault, reading}
-use Rattle.format.specs.Step.{State, over, end, run, begin}
-use Rattle.format.specs.Numbers.{Numbers, stateOf}
-use Rattle.format.specs.Answers.{Fed, fed, answerOf, beginCall, feedCall, endCall, readCall}
+use Rattle.format.specs.Reading.{ok, bad, Ended, finished, refused, ended, unlessFault, reading, taken}
+use Rattle.format.specs.Step.{Mode, wait, over, none, act, end, run, begin}
+use Rattle.format.specs.Numbers.{Numbers, stateOf, lentOf, frameWidth}
+use Rattle.format.specs.Answers.{Fed, fed, answerOf, beginCall, feedCall, endCall, read, readCall, output, writeCall}
 use Rattle.format.specs.Standard.{Tables, Tree, noTables, value, standard, encode}
-use Rattle.format.specs.Unfold.{unfolded}
+use Rattle.format.specs.Unfold.{unfolded, rowsIn}
 use Rattle.format.specs.Holds.{canHold}
 use Rattle.format.specs.RowTest.{tested}
 use Rattle.format.specs.Writing.{written, unwritten, writing}
@@ -23,7 +29,7 @@ use Rattle.format.proofs.Feeding as feeding
 use Rattle.format.proofs.Cuts as cuts
 use Rattle.format.proofs.Cuts.{joined}
 use Rattle.format.proofs.Pieces as pieces
-use Rattle.format.proofs.Pieces.{fedBy, fedPieces, untook, endBy, endRead, unread, tally, takenIn, answerIn}
+use Rattle.format.proofs.Pieces.{fedBy, fedPieces, untook, endBy, endRead, unread, tally, takenIn, untaken, answerIn}
 use Rattle.format.proofs.Unique as unique
 use Rattle.format.proofs.Wiped as wiped
 use Rattle.format.proofs.Meaning as meaning
@@ -40,20 +46,114 @@ use Rattle.format.proofs.Writable.{Writable}
 use Rattle.format.proofs.Round as round
 use Rattle.format.proofs.Again.{Wide}
 use Rattle.format.proofs.Size as size
+use Rattle.format.proofs.Exactly as exactly
+use Rattle.format.proofs.Exactly.{Held-just}
 use Rattle.format.proofs.Trip as trip
 use Rattle.format.proofs.Trip.{Returns}
+use Rattle.promises.proofs.Named.{Named, BeginSays, FeedSays, EndSays, ReadSays, WriteRefuses, WriteSays, readAnswer, writeAnswer, Going, FeedLeaves, EndLeaves}
+use Rattle.promises.proofs.Stands.{placeOf}
+use Rattle.promises.proofs.Counted.{Decided-by, lastByte}
+use Rattle.promises.proofs.Decides as decides
+use Rattle.promises.proofs.Answered as answered
+use Rattle.promises.proofs.Answered.{firstNumbers, refusedNumbers, lostNumbers, Feeds}
+use Rattle.promises.proofs.Together as together
+use Rattle.promises.proofs.Together.{Together}
+use Rattle.promises.proofs.Ranges as ranges
+use Rattle.promises.proofs.Ranges.{Reads}
+use Rattle.promises.proofs.Ample as ample
+use Rattle.promises.proofs.Roomy as roomy
+use Rattle.promises.proofs.Roomy.{NoShorter, Roomy, widened, beyond, extra, used}
+use Rattle.promises.proofs.Trips as trips
+use Rattle.promises.proofs.Trips.{Again}
 
 -- ======== 1. Total
 
 -- "For any bytes, any rows, any half-read state, any lent memory, each public call ends with an answer that document 01 names. No public call has a requires."
--- By type: beginCall, feedCall, endCall, readCall, writeCall and textCall are functions of anything, and their answers are Answers.antt's.
+-- By type: beginCall, feedCall, endCall, readCall, writeCall and textCall are functions of anything, and their answers are Answers.antt's. Which of them, and with
+-- what values: begin waits or gives 1 with a loan
+pub begin-named : (m : Memory) → BeginSays (answerIn (beginCall m))
+begin-named = ranges.begin-says
 
--- "A refused reading leaves the loans as document 01 says": 1 as found, any other refusal all of them zero
-pub refused-by-1 : (m : Memory) (bytes : List ℕ) (loan : ℕ) → faultOf m ≡ suc loan → reading m bytes ≡ refused 1 (suc loan) 0 m
+-- feed waits and took all, finishes within what can be lent, or refuses by 1 to 12 with values in range. Refuses: 11 telling 7 at place 0, 12 telling 9 at place 9
+pub feed-named : (state : Numbers) (m : Memory) (part : List ℕ) → FeedSays (length part) (answerIn (feedCall state m part))
+feed-named = ranges.feed-says
+
+-- end never waits
+pub end-named : (state : Numbers) (m : Memory) → EndSays (answerIn (endCall state m))
+end-named = ranges.end-says
+
+-- what waited is refused by 2 at its place
+pub end-of-waiting : (state : Numbers) (m : Memory) (x : Mode) (ts : List Frame) (c : Cursor) → stateOf state m ≡ wait x ts c m
+    → endCall state m ≡ fed (Refused no.unexpectedEnd 0 (c .at) 0) (refusedNumbers no.unexpectedEnd 0 (c .at) (state .head .lent) (state .frames)) (zeroed m)
+end-of-waiting = answered.end-waits
+
+-- read never waits, and gives 1 to 11
+pub read-named : (m : Memory) (bytes : List ℕ) → Bytes bytes → ReadSays (length bytes) (readAnswer (readCall m bytes))
+read-named = ranges.read-says
+
+-- write reports no more bytes than the output has, or gives 1, 9, 10, 13 or 14
+pub write-named : (R B out : List ℕ) → WriteSays (rowsIn R) (length out) (writeAnswer (writeCall R B out))
+write-named = ranges.write-says
+
+-- each such refusal is one of document 01's
+pub refusal-named : (n told place : ℕ) → T (no.sayable n told place) → Named n told place
+refusal-named = ranges.sayable-named
+
+-- and so is each of write
+pub write-refusal-named : {rows out n told place : ℕ} → WriteRefuses rows out n told place → Named n told place
+write-refusal-named = ranges.write-named
+
+-- a state never begun says 12, to no bytes too. Refuses: a state never begun that answers waiting to an empty piece
+pub unbegun-says : (state : Numbers) (m : Memory) → stateOf state m ≡ none m → feedCall state m [] ≡ fed (Refused no.lost 0 0 0) state m
+unbegun-says = answered.unbegun-nothing
+
+-- to bytes it says so and zeroes the loans
+pub unbegun-lost : (state : Numbers) (m : Memory) (b : ℕ) (bs : List ℕ) → stateOf state m ≡ none m
+    → feedCall state m (b ∷ bs) ≡ fed (Refused no.lost 0 0 0) (lostNumbers state) (zeroed m)
+unbegun-lost = answered.unbegun-lost
+
+-- a waiting state that doesn't hold together gets 12 at its next byte, which isn't taken. Refuses: an unsound state that swallows its byte and waits on
+pub apart-lost : (state : Numbers) (m : Memory) (b : ℕ) (bs : List ℕ) (x : Mode) (ts : List Frame) (c : Cursor) → stateOf state m ≡ wait x ts c m
+    → (Together (state .head .lent) x ts c m → ⊥) → feedCall state m (b ∷ bs) ≡ fed (Refused no.lost 0 0 0) (lostNumbers state) (zeroed m)
+apart-lost = together.apart-lost
+
+-- one that does gets it only where what the loans and the frames hold doesn't fit what was read
+pub together-lost : (state : Numbers) (m : Memory) (b : ℕ) (x : Mode) (ts : List Frame) (c : Cursor) → b < 2 ^ 8 → stateOf state m ≡ wait x ts c m
+    → Together (state .head .lent) x ts c m → (told place k : ℕ) → answerIn (feedCall state m (b ∷ [])) ≡ Refused no.lost told place k
+    → (l : Memory) × (act x b ts (taken c) m ≡ over (refused no.lost 0 0 l))
+together-lost = together.together-unfit
+
+-- whatever the state, a new refusal's place is the place of the byte that it was decided by
+pub feed-places : (state : Numbers) (m : Memory) (b : ℕ) (bs : List ℕ) → Going (stateOf state m)
+    → Feeds (placeOf (stateOf state m)) (b ∷ bs) (answerIn (feedCall state m (b ∷ bs)))
+feed-places = answered.feed-going
+
+-- "A refused reading leaves the loans as document 01 says": after 1 as found, after any other refusal all of them zero
+pub refused-by-1 : (m : Memory) (bytes : List ℕ) (loan : ℕ) → faultOf m ≡ suc loan → reading m bytes ≡ refused no.badLoan (suc loan) 0 m
 refused-by-1 = wiped.fault-left
 
-pub refused-reading : (m : Memory) (bytes : List ℕ) (n told place : ℕ) (m′ : Memory) → reading m bytes ≡ refused n told place m′ → n ≢ 1 → m′ ≡ zeroed m
+-- and after any other refusal
+pub refused-reading : (m : Memory) (bytes : List ℕ) (n told place : ℕ) (m′ : Memory) → reading m bytes ≡ refused n told place m′ → n ≢ no.badLoan → m′ ≡ zeroed m
 refused-reading = wiped.refused-zero
+
+-- begin leaves the loans zero and the first state, or after 1 the loans as found and a refused state
+pub begin-waits : (m : Memory) → faultOf m ≡ 0 → beginCall m ≡ fed (Waiting 0) (firstNumbers (lentOf m)) (zeroed m)
+begin-waits = answered.begin-waits
+
+-- after 1
+pub begin-refuses : (m : Memory) (loan : ℕ) → faultOf m ≡ suc loan
+    → beginCall m ≡ fed (Refused no.badLoan (suc loan) 0 0) (refusedNumbers no.badLoan (suc loan) 0 (lentOf m) (replicate (openLimit * frameWidth) 0)) m
+begin-refuses = answered.begin-refuses
+
+-- feed and end on any state and loans: a refusal that is new leaves all loans zero, one that is repeated leaves everything
+pub feed-leaves : (state : Numbers) (m : Memory) (n told place k : ℕ) (state′ : Numbers) (m′ : Memory) (part : List ℕ)
+    → feedCall state m part ≡ fed (Refused n told place k) state′ m′ → FeedLeaves state m part n told place k state′ m′
+feed-leaves = answered.feed-leaves
+
+-- the same of end
+pub end-leaves : (state : Numbers) (m : Memory) (n told place k : ℕ) (state′ : Numbers) (m′ : Memory)
+    → endCall state m ≡ fed (Refused n told place k) state′ m′ → EndLeaves state m n told place state′ m′
+end-leaves = answered.end-leaves
 
 -- "a refused writing leaves the output untouched"
 pub refused-writing : (R B out P : List ℕ) (n told place : ℕ) → writing R B out ≡ unwritten n told place P → P ≡ out
@@ -62,16 +162,46 @@ refused-writing = writes.refused
 -- ======== 2. Meaning
 
 -- "Reading means what Adobe's AMF 3 Specification says, proved": both finish after as many bytes with the same unfolded tree, both refuse alike (2 to 8), or the
--- reading meets a limit or a loan (9 to 11)
-pub reading-means : (m : Memory) (bytes : List ℕ) → Bytes bytes → faultOf m ≡ 0 → Accord bytes (reading m bytes) (standard bytes)
+-- reading meets a limit or a loan (9 to 11). Refuses: a trait index by eight, in wire, code and definitions alike
+pub reading-means : (m : Memory) (bytes : List ℕ) → Bytes bytes → faultOf m ≡ 0 → Accord m bytes (reading m bytes) (standard bytes)
 reading-means = meaning.reading-means
 
 -- and conversely
-pub standard-kept : (m : Memory) (bytes : List ℕ) → Bytes bytes → faultOf m ≡ 0 → Kept-to (reading m bytes) (standard bytes)
+pub standard-kept : (m : Memory) (bytes : List ℕ) → Bytes bytes → faultOf m ≡ 0 → Kept-to m bytes (reading m bytes) (standard bytes)
 standard-kept = meaning.standard-kept
 
+-- the limits: 9 and 10 have the place of a byte, 10 a loan, and 11 only where as many bytes are taken as may be and there are more
+pub reading-ends : (m : Memory) (bytes : List ℕ) → Bytes bytes → Reads bytes (reading m bytes)
+reading-ends = ranges.reading-named
+
+-- enough is enough: what the standard finishes, the loans can hold and isn't too deep, is read, with references and long forms too. Refuses: every trait reference
+-- refused with 10, loan 5
+pub enough : (m : Memory) (bytes : List ℕ) → Bytes bytes → faultOf m ≡ 0 → (t : Tree) (s : Tables) (p : ℕ) (rest : List ℕ) → standard bytes ≡ ok t s p rest
+    → canHold m t ≡ true → depth t ≤ openLimit → p ≤ messageLimit → Returns (reading m bytes) p t
+enough = ample.enough
+
+-- and what they can hold is never longer than the limit
+pub enough-held : (m : Memory) (bytes : List ℕ) → Bytes bytes → faultOf m ≡ 0 → (t : Tree) (s : Tables) (p : ℕ) (rest : List ℕ) → standard bytes ≡ ok t s p rest
+    → canHold m t ≡ true → depth t ≤ openLimit → Returns (reading m bytes) p t
+enough-held = ample.enough-held
+
+-- more room changes nothing but 10: the same answer, and the same loans with zeros behind
+pub more-room : (m m′ : Memory) (bytes : List ℕ) → Bytes bytes → faultOf m ≡ 0 → faultOf m′ ≡ 0 → NoShorter m m′ → Roomy (reading m bytes)
+    → reading m′ bytes ≡ widened (beyond m m′) (reading m bytes)
+more-room = roomy.more-room
+
+-- 10 tells the loan that lacks room: while that one isn't longer, more of the others changes nothing. Refuses: 10 for the store that tells loan 5
+pub same-room : (m m′ : Memory) (bytes : List ℕ) → Bytes bytes → faultOf m ≡ 0 → faultOf m′ ≡ 0 → NoShorter m m′ → (loan place : ℕ) (m₁ : Memory)
+    → reading m bytes ≡ refused no.noRoom loan place m₁ → extra (beyond m m′) loan ≡ 0 → reading m′ bytes ≡ widened (beyond m m′) (reading m bytes)
+same-room = roomy.same-room
+
+-- a finished reading finishes with more room, and the used parts are the same
+pub finished-room : (m m′ : Memory) (bytes : List ℕ) → Bytes bytes → faultOf m ≡ 0 → faultOf m′ ≡ 0 → NoShorter m m′ → (c : Cursor) (m₁ : Memory)
+    → reading m bytes ≡ finished c m₁ → (m₂ : Memory) × (reading m′ bytes ≡ finished c m₂) × (used c m₂ ≡ used c m₁)
+finished-room = roomy.finished-room
+
 -- a reading that is left alone never gets 12
-pub never-12 : (m : Memory) (bytes : List ℕ) → Bytes bytes → (n told place : ℕ) (m′ : Memory) → reading m bytes ≡ refused n told place m′ → n ≢ 12
+pub never-12 : (m : Memory) (bytes : List ℕ) → Bytes bytes → (n told place : ℕ) (m′ : Memory) → reading m bytes ≡ refused n told place m′ → n ≢ no.lost
 never-12 = meaning.never-lost
 
 -- more fuel changes nothing of the standard
@@ -87,9 +217,11 @@ depth-is-enough = deeper.deeper-reading
 pub accepted-writing : (R B out P : List ℕ) (n : ℕ) → writing R B out ≡ written n P → Accepted R B out n P
 accepted-writing = writes.accepted
 
+-- and conversely
 pub accepts-writing : (R B out P : List ℕ) (n : ℕ) → Accepted R B out n P → writing R B out ≡ written n P
 accepts-writing = writes.accepts
 
+-- the bytes reported are those, and no other changes
 pub only-reported : (R B out P : List ℕ) (n : ℕ) → Accepted R B out n P
     → (take n P ≡ encode (unfolded R B 0)) × (drop n P ≡ drop n out) × (length P ≡ length out)
 only-reported = writes.reported
@@ -108,10 +240,34 @@ pub round-trip : (R B out P : List ℕ) (n : ℕ) → Wide R → writing R B out
     → Returns (reading m (take n P ++ rest)) n (unfolded R B 0)
 round-trip = trip.round-trip
 
+-- through the calls: what write reports of a store of bytes are bytes
+pub written-bytes : (R B out P : List ℕ) (n : ℕ) → Wide R → Bytes B → writeCall R B out ≡ output (Written n) P → Bytes (take n P)
+written-bytes = trips.written-bytes
+
+-- read gives them back, whatever bytes follow, and so do begin, any pieces and the end
+pub call-trip : (R B out P : List ℕ) (n : ℕ) → Wide R → Bytes B → writeCall R B out ≡ output (Written n) P
+    → (m : Memory) → canHold m (unfolded R B 0) ≡ true → faultOf m ≡ 0 → (rest : List ℕ) → Bytes rest → Again m (take n P ++ rest) n (unfolded R B 0)
+call-trip = trips.call-trip
+
+-- and with none
+pub call-trip-alone : (R B out P : List ℕ) (n : ℕ) → Wide R → Bytes B → writeCall R B out ≡ output (Written n) P
+    → (m : Memory) → canHold m (unfolded R B 0) ≡ true → faultOf m ≡ 0 → Again m (take n P) n (unfolded R B 0)
+call-trip-alone = trips.call-trip-alone
+
 -- every table that a reading finished passes 13, and passes 14 unless it has a date over 2^53
 pub finished-passes : (m : Memory) (bytes : List ℕ) (c : Cursor) (m′ : Memory) → reading m bytes ≡ finished c m′
     → Passes (usedRows c m′) (tested (usedRows c m′) (m′ .store))
 finished-passes = tables.finished-passes
+
+-- canHold is exact: where a written tree's reading finishes, the loans can hold it
+pub held-exactly : (m : Memory) (t : Tree) → Writable t → (rest : List ℕ) (c : Cursor) (k : Memory) → reading m (encode t ++ rest) ≡ finished c k
+    → canHold m t ≡ true
+held-exactly = exactly.held-exactly
+
+-- and it is read back exactly where they can
+pub can-hold-exact : (m : Memory) (t : Tree) → faultOf m ≡ 0 → Writable t → depth t ≤ openLimit → (rest : List ℕ) → Bytes (encode t ++ rest)
+    → Held-just m t rest (canHold m t)
+can-hold-exact = exactly.can-hold-exact
 
 -- such bytes stay below the message limit
 pub below-the-limit : (m : Memory) (t : Tree) → faultOf m ≡ 0 → canHold m t ≡ true → length (encode t) < messageLimit
@@ -124,7 +280,7 @@ pub feeding-is-reading : (m : Memory) (bytes : List ℕ) → end (run (begin m) 
 feeding-is-reading = feeding.feeding
 
 -- through the public calls, whatever the pieces: the end's answer and the loans are those of the whole reading
-pub feeding-by-calls : (m : Memory) (parts : List (List ℕ)) → endRead (endBy (fedPieces (beginCall m) parts)) ≡ unread (readCall m (joined parts))
+pub feeding-by-calls : (m : Memory) (parts : List (List ℕ)) → Bytes (joined parts) → endRead (endBy (fedPieces (beginCall m) parts)) ≡ unread (readCall m (joined parts))
 feeding-by-calls = pieces.feeding-calls
 
 -- "However the message is cut, after each piece the answer, the state and the lent memory are those of the joined bytes fed at once"
@@ -135,23 +291,106 @@ cut-anywhere = pieces.begun-pieces
 pub cut-anything : (f : Fed) (part : List ℕ) (parts : List (List ℕ)) → untook (fedPieces f (part ∷ parts)) ≡ untook (fedBy f (joined (part ∷ parts)))
 cut-anything = pieces.fed-pieces
 
--- bytes taken add up, and are no more than there are
+-- bytes taken add up
 pub taken-adds-up : (f : Fed) (parts : List (List ℕ)) → tally f parts ≡ takenIn (answerIn (fedBy f (joined parts)))
 taken-adds-up = pieces.taken-pieces
 
+-- and are no more than there are
 pub taken-is-there : (f : Fed) (parts : List (List ℕ)) → tally f parts ≤ length (joined parts)
 taken-is-there = pieces.tally-length
+
+-- what waits took all
+pub waiting-took-all : (m : Memory) (parts : List (List ℕ)) (k : ℕ) → answerIn (fedPieces (beginCall m) parts) ≡ Waiting k
+    → tally (beginCall m) parts ≡ length (joined parts)
+waiting-took-all = decides.waiting-tally
+
+-- a refusal's place counts the bytes that were taken, but for 1 and 12
+pub refused-took : (m : Memory) (parts : List (List ℕ)) (n told place k : ℕ) → answerIn (fedPieces (beginCall m) parts) ≡ Refused n told place k
+    → n ≢ no.badLoan → n ≢ no.lost → tally (beginCall m) parts ≡ place
+refused-took = decides.refused-tally
+
+-- 11 tells 0 at the limit, which is as many as were taken
+pub limit-took : (m : Memory) (parts : List (List ℕ)) (told place k : ℕ) → answerIn (fedPieces (beginCall m) parts) ≡ Refused no.tooLong told place k
+    → (told ≡ 0) × (place ≡ messageLimit) × (tally (beginCall m) parts ≡ messageLimit)
+limit-took = decides.limit-tally
+
+-- finished pieces are the whole reading, with as many bytes taken and the same loans
+pub finished-took : (m : Memory) (parts : List (List ℕ)) (state : Numbers) (l : Memory) → Bytes (joined parts) → (rows bytes k : ℕ)
+    → fedPieces (beginCall m) parts ≡ fed (Finished rows bytes k) state l → readCall m (joined parts) ≡ read (Finished rows bytes (tally (beginCall m) parts)) l
+finished-took = decides.finished-tally
+
+-- and so are refused ones
+pub refused-is-reading : (m : Memory) (parts : List (List ℕ)) (state : Numbers) (l : Memory) → Bytes (joined parts) → (n told place k : ℕ)
+    → fedPieces (beginCall m) parts ≡ fed (Refused n told place k) state l → reading m (joined parts) ≡ refused n told place l
+refused-is-reading = decides.refused-reading
+
+-- the deciding byte b, behind bytes a that wait, is the last one taken, but for 11 and 12. Refuses: 9 and 10 that take no byte
+pub deciding-byte : (m : Memory) (a : List ℕ) (b : ℕ) (rest : List ℕ) (parts : List (List ℕ)) → joined parts ≡ a ++ (b ∷ rest) → (i : ℕ) → b < 2 ^ 8
+    → answerIn (fedBy (beginCall m) a) ≡ Waiting i → ((j : ℕ) → answerIn (fedBy (beginCall m) (a ++ (b ∷ []))) ≢ Waiting j)
+    → tally (beginCall m) parts ≡ length a + lastByte (answerIn (fedPieces (beginCall m) parts))
+deciding-byte = decides.decides
+
+-- it is, for any answer but 11
+pub deciding-byte-taken : (m : Memory) (a : List ℕ) (b : ℕ) (rest : List ℕ) (parts : List (List ℕ)) → joined parts ≡ a ++ (b ∷ rest) → (i : ℕ) → b < 2 ^ 8
+    → answerIn (fedBy (beginCall m) a) ≡ Waiting i → ((j : ℕ) → answerIn (fedBy (beginCall m) (a ++ (b ∷ []))) ≢ Waiting j)
+    → Bytes (joined parts) → ((told place k : ℕ) → answerIn (fedPieces (beginCall m) parts) ≢ Refused no.tooLong told place k)
+    → tally (beginCall m) parts ≡ suc (length a)
+deciding-byte-taken = decides.decides-taken
+
+-- and for 11 the one before it is
+pub deciding-byte-past : (m : Memory) (a : List ℕ) (b : ℕ) (rest : List ℕ) (parts : List (List ℕ)) → joined parts ≡ a ++ (b ∷ rest) → (i : ℕ) → b < 2 ^ 8
+    → answerIn (fedBy (beginCall m) a) ≡ Waiting i → ((j : ℕ) → answerIn (fedBy (beginCall m) (a ++ (b ∷ []))) ≢ Waiting j)
+    → (told place k : ℕ) → answerIn (fedPieces (beginCall m) parts) ≡ Refused no.tooLong told place k → tally (beginCall m) parts ≡ length a
+deciding-byte-past = decides.decides-limit
+
+-- the answer is that byte's: a refusal has its place, and 3 tells it
+pub deciding-answer : (m : Memory) (a : List ℕ) (b : ℕ) (rest : List ℕ) (parts : List (List ℕ)) → joined parts ≡ a ++ (b ∷ rest) → (i : ℕ) → b < 2 ^ 8
+    → answerIn (fedBy (beginCall m) a) ≡ Waiting i → ((j : ℕ) → answerIn (fedBy (beginCall m) (a ++ (b ∷ []))) ≢ Waiting j)
+    → Decided-by b (suc (length a)) (answerIn (fedPieces (beginCall m) parts))
+deciding-answer = decides.decides-by
+
+-- while it waits the loans hold what the bytes give: the reading of the same bytes stops with 2 at the same place and in the same loans
+pub waiting-is-reading : (m : Memory) (bytes : List ℕ) (x : Mode) (ts : List Frame) (c : Cursor) (k : Memory) → faultOf m ≡ 0
+    → run (begin m) bytes ≡ wait x ts c k → reader.value openLimit noKey (zeroed m) fresh bytes ≡ bad no.unexpectedEnd 0 (c .at) k
+waiting-is-reading = feeding.waits-reading
+
+-- through the calls
+pub waiting-loans : (m : Memory) (parts : List (List ℕ)) → Bytes (joined parts) → (k : ℕ) (state : Numbers) (l : Memory)
+    → fedPieces (beginCall m) parts ≡ fed (Waiting k) state l
+    → reader.value openLimit noKey (zeroed m) fresh (joined parts) ≡ bad no.unexpectedEnd 0 (tally (beginCall m) parts) l
+waiting-loans = decides.waits-loans
+
+-- a state begun here and left alone never gets 12
+pub feed-never-12 : (m : Memory) (parts : List (List ℕ)) → Bytes (joined parts) → (told place k : ℕ)
+    → answerIn (fedPieces (beginCall m) parts) ≢ Refused no.lost told place k
+feed-never-12 = decides.feed-never-lost
+
+-- and not at the end
+pub end-never-12 : (m : Memory) (parts : List (List ℕ)) → Bytes (joined parts) → (told place k : ℕ)
+    → answerIn (endBy (fedPieces (beginCall m) parts)) ≢ Refused no.lost told place k
+end-never-12 = decides.end-never-lost
 
 -- nothing after the deciding byte changes anything
 pub decided : (m : Memory) (a b : List ℕ) (e : Ended) → run (begin m) a ≡ over e → reading m (a ++ b) ≡ e
 decided = cuts.reading-decided
 
--- an empty piece changes nothing; what has ended takes nothing, touches no loan and repeats its answer
+-- and so through the calls, on any state: an answer that neither waits nor is 12 is repeated by every call after it, which takes nothing and changes nothing
+pub answered-repeats : (state : Numbers) (m : Memory) (part : List ℕ) (a : Answer) (state′ : Numbers) (m′ : Memory) → feedCall state m part ≡ fed a state′ m′
+    → ((j : ℕ) → a ≢ Waiting j) → ((told place j : ℕ) → a ≢ Refused no.lost told place j) → (k : Memory) (more : List ℕ)
+    → (feedCall state′ k more ≡ fed (untaken a) state′ k) × (endCall state′ k ≡ fed (untaken a) state′ k)
+answered-repeats = answered.answered-repeats
+
+-- an empty piece changes nothing
 pub empty-piece : (n : Numbers) (m : Memory) → feedCall n m [] ≡ fed (answerOf (stateOf n m) 0) n m
 empty-piece = pieces.feed-nothing
 
+-- what has ended takes nothing, touches no loan and repeats its answer to any piece
 pub ended-repeats : (n : Numbers) (m k : Memory) (e : Ended) (part : List ℕ) → stateOf n m ≡ over e → feedCall n k part ≡ fed (answerOf (over e) 0) n k
 ended-repeats = pieces.feed-ended
+
+-- and to the end
+pub ended-repeats-to-end : (n : Numbers) (m k : Memory) (e : Ended) → stateOf n m ≡ over e → endCall n k ≡ fed (answerOf (over e) 0) n k
+ended-repeats-to-end = pieces.end-ended
 
 -- ======== and besides
 

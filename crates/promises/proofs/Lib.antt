@@ -6,6 +6,8 @@ pub mod Brief
 -- Enough room is enough, and more changes nothing but 10.
 pub mod Ample
 pub mod Roomy
+-- What each call may answer and leave: definitions only.
+pub mod Named
 -- On any state: refusals have their places, bytes their counts, answers their names.
 pub mod Stands
 pub mod Counted

@@ -1,12 +1,11 @@
 -- More room changes nothing but refusal 10: with longer loans a reading decides the same, byte by byte, and leaves the same, with zeros behind.
 use mathlib.Core.Path.{_≡_, refl, sym, ap, _∙_}
 use mathlib.Core.Logic.{_≢_}
-use mathlib.Core.Bool.{Bool, true, false, cond, not, _||_}
-use mathlib.Core.List.{List, [], _∷_, _++_}
+use mathlib.Core.Bool.{Bool, true, false, cond, not}
+use mathlib.Core.List.{List, [], _∷_, _++_, append-nil}
 use Prim.Native.Nat.{ℕ, zero, suc, _+_, _*_, _-_, _/_, _<_, _≤_}
 use native.Mathlib.Omega.{arith}
-use borrow.Author.Tests.{ltb-true, ltb-false, leb-true, leb-false, le-ltb, lt-leb, le-leb, not-false, ne-eqb}
-use native.Mathlib.Decide.{ℕ-discrete}
+use borrow.Author.Tests.{ltb-true, ltb-false, leb-true, leb-false, le-ltb, lt-leb, le-leb, not-false}
 use lib.Dec.{leb, ltb, eqb}
 use lib.ListN.{length, getD, set, replicate, take, length-append, length-set, length-replicate, replicate-append-replicate}
 use lib.Seq.{sets, set-append-left, take-append-le}
@@ -35,7 +34,7 @@ use Rattle.wire.proofs.Octets.{Bytes}
 use Rattle.format.specs.Decide as k
 use Rattle.format.specs.Decide.{Out, stop, give, lost, Decision, lift, looking, onRows, onStore, onStrings, onObjects, onTraits, onNames, inRow}
 use Rattle.format.specs.Decide.{Width, Body, Kind, widthOf, kindOf, classOf, traitAt, traitHolds, traitOf}
-use Rattle.format.specs.Decide.{closed, numbered, integerEnd, dated, dateEnd, bodied, classed, objectClass, vectorClass, flagged, counted, grown, marker, newRow}
+use Rattle.format.specs.Decide.{closed, numbered, integerEnd, dated, dateEnd, bodied, classed, objectClass, vectorClass, flagged, counted, keyEnd, grown, marker, newRow}
 use Rattle.format.specs.Decide.{oldText, reserved, stored, judged, textEnd, entered, referred, oldTrait, named, traitEnd, sealedKey, starred}
 use Rattle.format.specs.Reading as r
 use Rattle.format.specs.Reading.{ResultOf, Result, ok, bad, bind, _>>=_, ret, Reader, Values, by, decided, taken, Ended, finished, refused, ended, reading}
@@ -83,6 +82,10 @@ more-at n [] i = none-there n i
 more-at n (x ∷ l) zero = refl
 more-at n (x ∷ l) (suc i) = more-at n l i
 
+-- no zeros behind
+none-more : (n : ℕ) (l : List ℕ) → n ≡ 0 → more n l ≡ l
+none-more n l e = ap (λ (k : ℕ). more k l) e ∙ append-nil l
+
 more-set : (n : ℕ) (l : List ℕ) (i v : ℕ) → i < length l → set (more n l) i v ≡ more n (set l i v)
 more-set n l i v h = set-append-left l (replicate n 0) i v h
 
@@ -92,44 +95,66 @@ more-sets n (v ∷ vs) l i h = rw (more-set n l i v (omega arith)) (more-sets n 
 
 -- ---- decisions
 
--- no room, or a state that doesn't hold together
-abbrev pub full : ℕ → Bool
-full n = eqb n refusals.noRoom || eqb n refusals.lost
+-- so many numbers more in a loan
+abbrev pub extra : Longer → ℕ → ℕ
+extra w loan =
+    cond (eqb loan loanRows) (w .rows)
+    (cond (eqb loan loanStore) (w .store)
+    (cond (eqb loan loanStrings) (w .strings)
+    (cond (eqb loan loanObjects) (w .objects)
+    (cond (eqb loan loanTraits) (w .traits)
+    (cond (eqb loan loanNames) (w .names) 0)))))
+
+-- a state that doesn't hold together; or no room in a loan that is longer
+pub data Tight (w : Longer) : ℕ → ℕ → Type 0 where
+  strays : Tight w refusals.lost 0
+  lacks : {loan : ℕ} → 0 < extra w loan → Tight w refusals.noRoom loan
 
 -- the second, with longer loans, gives the same, or refuses the same; or the first had no room
-pub data Like {S A : Type 0} (to : S → S) : Out S A → Out S A → Type 0 where
-  gives : {a : A} {s : S} {c : Cursor} → Like to (give a s c) (give a (to s) c)
-  stops : {n t p : ℕ} → Like to (stop n t p) (stop n t p)
-  tight : {n t p : ℕ} {o : Out S A} → full n ≡ true → Like to (stop n t p) o
+pub data Like {S A : Type 0} (w : Longer) (to : S → S) : Out S A → Out S A → Type 0 where
+  gives : {a : A} {s : S} {c : Cursor} → Like w to (give a s c) (give a (to s) c)
+  stops : {n t p : ℕ} → Like w to (stop n t p) (stop n t p)
+  tight : {n t p : ℕ} {o : Out S A} → Tight w n t → Like w to (stop n t p) o
 
-module _ {S A : Type 0} (to : S → S) where
-  -- a refusal of the first for want of room, which the second need not make
-  pub guard : (a b : Bool) (n t p : ℕ) (x y : Out S A) → full n ≡ true → (a ≡ false → b ≡ false) → (a ≡ false → Like to x y)
-      → Like to (cond a (stop n t p) x) (cond b (stop n t p) y)
+module _ {w : Longer} {S A : Type 0} (to : S → S) where
+  -- a refusal of the first, which the second need not make
+  pub guard : (a b : Bool) (n t p : ℕ) (x y : Out S A) → Tight w n t → (a ≡ false → b ≡ false) → (a ≡ false → Like w to x y)
+      → Like w to (cond a (stop n t p) x) (cond b (stop n t p) y)
   guard true b n t p x y f e h = tight f
   guard false true n t p x y f e h = let z = e refl in clash cc
   guard false false n t p x y f e h = h refl
 
+  -- one for want of room, which the second makes if that loan isn't longer
+  pub room : (a b : Bool) (loan p : ℕ) (x y : Out S A) → (extra w loan ≡ 0 → b ≡ a) → (a ≡ false → b ≡ false) → (a ≡ false → Like w to x y)
+      → Like w to (cond a (stop refusals.noRoom loan p) x) (cond b (stop refusals.noRoom loan p) y)
+  room true b loan p x y q e h = of (extra w loan) refl
+    where
+      of : (k : ℕ) → extra w loan ≡ k → Like w to (stop refusals.noRoom loan p) (cond b (stop refusals.noRoom loan p) y)
+      of zero z = rw (q z) stops
+      of (suc k) z = tight (lacks {loan = loan} (rw z (omega arith)))
+  room false true loan p x y q e h = let z = e refl in clash cc
+  room false false loan p x y q e h = h refl
+
   -- what only goes on where it holds
-  pub keep : (a b : Bool) (x y : Out S A) → (a ≡ true → b ≡ true) → (a ≡ true → Like to x y) → Like to (cond a x lost) (cond b y lost)
+  pub keep : (a b : Bool) (x y : Out S A) → (a ≡ true → b ≡ true) → (a ≡ true → Like w to x y) → Like w to (cond a x lost) (cond b y lost)
   keep true true x y e h = h refl
   keep true false x y e h = let z = e refl in clash cc
-  keep false b x y e h = tight refl
+  keep false b x y e h = tight strays
 
   -- the same test
-  pub test : (a : Bool) (x y u v : Out S A) → (a ≡ true → Like to x u) → (a ≡ false → Like to y v) → Like to (cond a x y) (cond a u v)
+  pub test : (a : Bool) (x y u v : Out S A) → (a ≡ true → Like w to x u) → (a ≡ false → Like w to y v) → Like w to (cond a x y) (cond a u v)
   test true x y u v h i = h refl
   test false x y u v h i = i refl
 
-  pub given : {a : A} {s u : S} {c : Cursor} → u ≡ to s → Like to (give a s c) (give a u c)
+  pub given : {a : A} {s u : S} {c : Cursor} → u ≡ to s → Like w to (give a s c) (give a u c)
   given e = rw e gives
 
 -- a row that is used changes
 put-more : (n : ℕ) (R : List ℕ) (row col v : ℕ) → col < rowWidth → row * rowWidth + rowWidth ≤ length R → put (more n R) row col v ≡ more n (put R row col v)
 put-more n R row col v h l = more-set n R (row * rowWidth + col) v (omega arith)
 
-in-row : (row : ℕ) (f : List ℕ → List ℕ) (n : ℕ) → ((R : List ℕ) → row * rowWidth + rowWidth ≤ length R → f (more n R) ≡ more n (f R))
-    → (R : List ℕ) (c : Cursor) → Like (more n) (inRow row f R c) (inRow row f (more n R) c)
+in-row : {w : Longer} (row : ℕ) (f : List ℕ → List ℕ) (n : ℕ) → ((R : List ℕ) → row * rowWidth + rowWidth ≤ length R → f (more n R) ≡ more n (f R))
+    → (R : List ℕ) (c : Cursor) → Like w (more n) (inRow row f R c) (inRow row f (more n R) c)
 in-row row f n h R c =
     keep (more n) (rowUsed R c row) (rowUsed (more n R) c row) _ _ (λ e. longer e) (λ e. given (more n) (h R (lies e)))
   where
@@ -144,11 +169,11 @@ in-row row f n h R c =
         let b = leb-true (c .rows) (length R / rowWidth) (parts e .1) in
         rw (parts e .0) (le-leb (c .rows) (length (more n R) / rowWidth) (omega (arith, more-length n R)))
 
-numbered-like : (w row n : ℕ) (R : List ℕ) (c : Cursor) → Like (more w) (numbered row n R c) (numbered row n (more w R) c)
+numbered-like : {w : Longer} (k row n : ℕ) (R : List ℕ) (c : Cursor) → Like w (more k) (numbered row n R c) (numbered row n (more k R) c)
 unfolding numbered
-numbered-like w row n R c =
-    in-row row (λ R. put (put R row colNumber n) row colEnd (c .rows)) w (λ R l. rw (put-more w R row colNumber n (omega arith) l)
-    (put-more w (put R row colNumber n) row colEnd (c .rows) (omega arith) (rw length-set l))) R c
+numbered-like k row n R c =
+    in-row row (λ R. put (put R row colNumber n) row colEnd (c .rows)) k (λ R l. rw (put-more k R row colNumber n (omega arith) l)
+    (put-more k (put R row colNumber n) row colEnd (c .rows) (omega arith) (rw length-set l))) R c
 
 -- counts that hold together with a loan do so with a longer one, and room in it is room
 counts : (n : ℕ) (l : List ℕ) (d u : ℕ) → ltb (length l / spanWidth) u ≡ false → ltb (length (more n l) / spanWidth) u ≡ false
@@ -161,14 +186,14 @@ used-more n R c row e =
     rw (q .0) (le-leb (c .rows) (length (more n R) / rowWidth) (omega (arith, more-length n R)))
 
 -- row becomes a reference
-referred-like : (n o row i : ℕ) (O R : List ℕ) (c : Cursor) → Like (more n) (referred row i O R c) (referred row i (more o O) (more n R) c)
+referred-like : {w : Longer} (n o row i : ℕ) (O R : List ℕ) (c : Cursor) → Like w (more n) (referred row i O R c) (referred row i (more o O) (more n R) c)
 unfolding referred
 referred-like n o row i O R c =
     rw (more-at o O i, more-at n R (getD O i 0 * rowWidth + colEnd))
-    (guard (more n) (ltb (length O) (c .objects)) (ltb (length (more o O)) (c .objects)) refusals.lost 0 0 _ _ refl
+    (guard (more n) (ltb (length O) (c .objects)) (ltb (length (more o O)) (c .objects)) refusals.lost 0 0 _ _ strays
     (λ h. let j = ltb-false (length O) (c .objects) h in le-ltb (length (more o O)) (c .objects) (omega (arith, more-length o O)))
     (λ h. test (more n) (leb (c .objects) i) _ _ _ _ (λ z. stops) (λ z.
-    guard (more n) (not (rowUsed R c (getD O i 0))) (not (rowUsed (more n R) c (getD O i 0))) refusals.lost 0 0 _ _ refl
+    guard (more n) (not (rowUsed R c (getD O i 0))) (not (rowUsed (more n R) c (getD O i 0))) refusals.lost 0 0 _ _ strays
     (λ h. rw (used-more n R c (getD O i 0) (not-false _ h)))
     (λ h. test (more n) (ltb (c .rows) (cell R (getD O i 0) colEnd)) _ _ _ _ (λ z. stops) (λ z. test (more n) (eqb (cell R (getD O i 0) colEnd) 0) _ _ _ _ (λ z. stops)
     (λ z. in-row row (λ R. put (put (put R row colKind kindReference) row colNumber (getD O i 0)) row colEnd (c .rows)) n
@@ -180,7 +205,7 @@ referred-like n o row i O R c =
 pub data Wider (w : Longer) {A : Type 0} : Result A → Result A → Type 0 where
   fine : {a : A} {m : Memory} {c : Cursor} {bs : List ℕ} → Wider w (ok a m c bs) (ok a (wider w m) c bs)
   same : {n t p : ℕ} {m : Memory} → Wider w (bad n t p m) (bad n t p (wider w m))
-  short : {n t p : ℕ} {m : Memory} {r : Result A} → full n ≡ true → Wider w (bad n t p m) r
+  short : {n t p : ℕ} {m : Memory} {r : Result A} → Tight w n t → Wider w (bad n t p m) r
 
 pub record Over (w : Longer) {A : Type 0} (f : Reader A) : Type 0 where
   pub over : (m : Memory) (c : Cursor) (bs : List ℕ) → Wider w (f m c bs) (f (wider w m) c bs)
@@ -197,12 +222,12 @@ module _ {w : Longer} where
   pub over-ret : {A : Type 0} {a : A} → Over w (ret a)
   over-ret = record { over = λ m c bs. fine }
 
-  like-wider : {A : Type 0} {x y : Out Memory A} (m : Memory) (bs : List ℕ) → Like (wider w) x y → Wider w (decided x m bs) (decided y (wider w m) bs)
+  like-wider : {A : Type 0} {x y : Out Memory A} (m : Memory) (bs : List ℕ) → Like w (wider w) x y → Wider w (decided x m bs) (decided y (wider w m) bs)
   like-wider m bs gives = fine
   like-wider m bs stops = same
   like-wider m bs (tight e) = short e
 
-  over-by : {A : Type 0} {d : Decision A} → ((m : Memory) (c : Cursor) → Like (wider w) (d m c) (d (wider w m) c)) → Over w (by d)
+  over-by : {A : Type 0} {d : Decision A} → ((m : Memory) (c : Cursor) → Like w (wider w) (d m c) (d (wider w m) c)) → Over w (by d)
   over-by h = record { over = λ m c bs. like-wider m bs (h m c) }
 
   pub over-lost : {A : Type 0} → Over w {A = A} (by (λ m c. lost))
@@ -220,77 +245,77 @@ module _ {w : Longer} where
           by-limit false = fine
 
   -- decisions on one loan
-  pub over-rows : {A : Type 0} {d : List ℕ → Cursor → Out (List ℕ) A} → ((R : List ℕ) (c : Cursor) → Like (more (w .rows)) (d R c) (d (more (w .rows) R) c))
+  pub over-rows : {A : Type 0} {d : List ℕ → Cursor → Out (List ℕ) A} → ((R : List ℕ) (c : Cursor) → Like w (more (w .rows)) (d R c) (d (more (w .rows) R) c))
       → Over w (by (onRows d))
   over-rows h = over-by (λ m c. up m (h (m .rows) c))
     where
-      up : {A : Type 0} {x y : Out (List ℕ) A} (m : Memory) → Like (more (w .rows)) x y
-          → Like (wider w) (lift (λ R. memory R (m .store) (m .strings) (m .objects) (m .traits) (m .names)) x)
+      up : {A : Type 0} {x y : Out (List ℕ) A} (m : Memory) → Like w (more (w .rows)) x y
+          → Like w (wider w) (lift (λ R. memory R (m .store) (m .strings) (m .objects) (m .traits) (m .names)) x)
           (lift (λ R. memory R (wider w m .store) (wider w m .strings) (wider w m .objects) (wider w m .traits) (wider w m .names)) y)
       up m gives = gives
       up m stops = stops
       up m (tight e) = tight e
 
-  over-store : {A : Type 0} {d : List ℕ → Cursor → Out (List ℕ) A} → ((B : List ℕ) (c : Cursor) → Like (more (w .store)) (d B c) (d (more (w .store) B) c))
+  over-store : {A : Type 0} {d : List ℕ → Cursor → Out (List ℕ) A} → ((B : List ℕ) (c : Cursor) → Like w (more (w .store)) (d B c) (d (more (w .store) B) c))
       → Over w (by (onStore d))
   over-store h = over-by (λ m c. up m (h (m .store) c))
     where
-      up : {A : Type 0} {x y : Out (List ℕ) A} (m : Memory) → Like (more (w .store)) x y
-          → Like (wider w) (lift (λ B. memory (m .rows) B (m .strings) (m .objects) (m .traits) (m .names)) x)
+      up : {A : Type 0} {x y : Out (List ℕ) A} (m : Memory) → Like w (more (w .store)) x y
+          → Like w (wider w) (lift (λ B. memory (m .rows) B (m .strings) (m .objects) (m .traits) (m .names)) x)
           (lift (λ B. memory (wider w m .rows) B (wider w m .strings) (wider w m .objects) (wider w m .traits) (wider w m .names)) y)
       up m gives = gives
       up m stops = stops
       up m (tight e) = tight e
 
-  over-strings : {A : Type 0} {d : List ℕ → Cursor → Out (List ℕ) A} → ((T : List ℕ) (c : Cursor) → Like (more (w .strings)) (d T c) (d (more (w .strings) T) c))
+  over-strings : {A : Type 0} {d : List ℕ → Cursor → Out (List ℕ) A} → ((T : List ℕ) (c : Cursor) → Like w (more (w .strings)) (d T c) (d (more (w .strings) T) c))
       → Over w (by (onStrings d))
   over-strings h = over-by (λ m c. up m (h (m .strings) c))
     where
-      up : {A : Type 0} {x y : Out (List ℕ) A} (m : Memory) → Like (more (w .strings)) x y
-          → Like (wider w) (lift (λ T. memory (m .rows) (m .store) T (m .objects) (m .traits) (m .names)) x)
+      up : {A : Type 0} {x y : Out (List ℕ) A} (m : Memory) → Like w (more (w .strings)) x y
+          → Like w (wider w) (lift (λ T. memory (m .rows) (m .store) T (m .objects) (m .traits) (m .names)) x)
           (lift (λ T. memory (wider w m .rows) (wider w m .store) T (wider w m .objects) (wider w m .traits) (wider w m .names)) y)
       up m gives = gives
       up m stops = stops
       up m (tight e) = tight e
 
-  over-objects : {A : Type 0} {d : List ℕ → Cursor → Out (List ℕ) A} → ((O : List ℕ) (c : Cursor) → Like (more (w .objects)) (d O c) (d (more (w .objects) O) c))
+  over-objects : {A : Type 0} {d : List ℕ → Cursor → Out (List ℕ) A} → ((O : List ℕ) (c : Cursor) → Like w (more (w .objects)) (d O c) (d (more (w .objects) O) c))
       → Over w (by (onObjects d))
   over-objects h = over-by (λ m c. up m (h (m .objects) c))
     where
-      up : {A : Type 0} {x y : Out (List ℕ) A} (m : Memory) → Like (more (w .objects)) x y
-          → Like (wider w) (lift (λ O. memory (m .rows) (m .store) (m .strings) O (m .traits) (m .names)) x)
+      up : {A : Type 0} {x y : Out (List ℕ) A} (m : Memory) → Like w (more (w .objects)) x y
+          → Like w (wider w) (lift (λ O. memory (m .rows) (m .store) (m .strings) O (m .traits) (m .names)) x)
           (lift (λ O. memory (wider w m .rows) (wider w m .store) (wider w m .strings) O (wider w m .traits) (wider w m .names)) y)
       up m gives = gives
       up m stops = stops
       up m (tight e) = tight e
 
-  over-traits : {A : Type 0} {d : List ℕ → Cursor → Out (List ℕ) A} → ((U : List ℕ) (c : Cursor) → Like (more (w .traits)) (d U c) (d (more (w .traits) U) c))
+  over-traits : {A : Type 0} {d : List ℕ → Cursor → Out (List ℕ) A} → ((U : List ℕ) (c : Cursor) → Like w (more (w .traits)) (d U c) (d (more (w .traits) U) c))
       → Over w (by (onTraits d))
   over-traits h = over-by (λ m c. up m (h (m .traits) c))
     where
-      up : {A : Type 0} {x y : Out (List ℕ) A} (m : Memory) → Like (more (w .traits)) x y
-          → Like (wider w) (lift (λ U. memory (m .rows) (m .store) (m .strings) (m .objects) U (m .names)) x)
+      up : {A : Type 0} {x y : Out (List ℕ) A} (m : Memory) → Like w (more (w .traits)) x y
+          → Like w (wider w) (lift (λ U. memory (m .rows) (m .store) (m .strings) (m .objects) U (m .names)) x)
           (lift (λ U. memory (wider w m .rows) (wider w m .store) (wider w m .strings) (wider w m .objects) U (wider w m .names)) y)
       up m gives = gives
       up m stops = stops
       up m (tight e) = tight e
 
-  over-names : {A : Type 0} {d : List ℕ → Cursor → Out (List ℕ) A} → ((N : List ℕ) (c : Cursor) → Like (more (w .names)) (d N c) (d (more (w .names) N) c))
+  over-names : {A : Type 0} {d : List ℕ → Cursor → Out (List ℕ) A} → ((N : List ℕ) (c : Cursor) → Like w (more (w .names)) (d N c) (d (more (w .names) N) c))
       → Over w (by (onNames d))
   over-names h = over-by (λ m c. up m (h (m .names) c))
     where
-      up : {A : Type 0} {x y : Out (List ℕ) A} (m : Memory) → Like (more (w .names)) x y
-          → Like (wider w) (lift (λ N. memory (m .rows) (m .store) (m .strings) (m .objects) (m .traits) N) x)
+      up : {A : Type 0} {x y : Out (List ℕ) A} (m : Memory) → Like w (more (w .names)) x y
+          → Like w (wider w) (lift (λ N. memory (m .rows) (m .store) (m .strings) (m .objects) (m .traits) N) x)
           (lift (λ N. memory (wider w m .rows) (wider w m .store) (wider w m .strings) (wider w m .objects) (wider w m .traits) N) y)
       up m gives = gives
       up m stops = stops
       up m (tight e) = tight e
 
-  over-looking : {A : Type 0} {d : Memory → Cursor → Out Unit A} → ((m : Memory) (c : Cursor) → Like {S = Unit} (λ x. x) (d m c) (d (wider w m) c))
+  over-looking : {A : Type 0} {d : Memory → Cursor → Out Unit A} → ((m : Memory) (c : Cursor) → Like {S = Unit} w (λ x. x) (d m c) (d (wider w m) c))
       → Over w (by (looking d))
   over-looking h = over-by (λ m c. up m (h m c))
     where
-      up : {A : Type 0} {x y : Out Unit A} (m : Memory) → Like {S = Unit} (λ x. x) x y → Like (wider w) (lift (λ z. m) x) (lift (λ z. wider w m) y)
+      up : {A : Type 0} {x y : Out Unit A} (m : Memory) → Like {S = Unit} w (λ x. x) x y → Like w (wider w) (lift (λ z. m) x) (lift (λ z. wider w m) y)
       up m gives = gives
       up m stops = stops
       up m (tight e) = tight e
@@ -337,8 +362,14 @@ module _ {w : Longer} where
 
   over-counted : (row col done : ℕ) → col < rowWidth → Over w (by (onRows (counted row col done)))
   unfolding counted
-  over-counted row col done h = over-rows (λ R c. test (more (w .rows)) (leb messageLimit done) _ _ _ _ (λ e. tight refl)
+  over-counted row col done h = over-rows (λ R c. test (more (w .rows)) (leb (c .rows) done) _ _ _ _ (λ e. tight strays)
       (λ e. in-row row (λ R. put R row col (done + 1)) (w .rows) (λ R l. put-more (w .rows) R row col (done + 1) h l) R c))
+
+  -- between a key and its value
+  over-key-end : (row done : ℕ) → Over w (by (looking (λ m. keyEnd row done (m .rows))))
+  unfolding keyEnd
+  over-key-end row done = over-looking {d = λ m. keyEnd row done (m .rows)} (λ m c. test (λ x. x) (leb (c .rows) done) _ _ _ _ (λ e. tight strays)
+      (λ e. keep (λ x. x) (rowUsed (m .rows) c row) (rowUsed (more (w .rows) (m .rows)) c row) _ _ (used-more (w .rows) (m .rows) c row) (λ e. gives)))
 
   over-grown : (row : ℕ) (x : Width) (s : Span) (n : ℕ) → Over w (by (onRows (grown row x s n)))
   unfolding grown
@@ -355,7 +386,7 @@ module _ {w : Longer} where
           let b = leb-true (c .rows) (length R / rowWidth) (q .1) in
           rw (q .0) (le-leb (c .rows) (length (more (w .rows) R) / rowWidth) (omega (arith, more-length (w .rows) R)))
 
-      date : (R : List ℕ) (c : Cursor) (d : Date) → Like (more (w .rows)) (dated row bits d R c) (dated row bits d (more (w .rows) R) c)
+      date : (R : List ℕ) (c : Cursor) (d : Date) → Like w (more (w .rows)) (dated row bits d R c) (dated row bits d (more (w .rows) R) c)
       date R c Refused = stops
       date R c (Millis n) = numbered-like (w .rows) row n R c
 
@@ -364,10 +395,11 @@ module _ {w : Longer} where
   over-marker key left b = over-rows (λ R c.
       let n = w .rows in
       let e = more-length n R in
-      guard (more n) (ltb (length R / rowWidth) (c .rows)) (ltb (length (more n R) / rowWidth) (c .rows)) refusals.lost 0 0 _ _ refl
+      guard (more n) (ltb (length R / rowWidth) (c .rows)) (ltb (length (more n R) / rowWidth) (c .rows)) refusals.lost 0 0 _ _ strays
       (λ h. let i = ltb-false (length R / rowWidth) (c .rows) h in le-ltb (length (more n R) / rowWidth) (c .rows) (omega arith))
       (λ h. test (more n) (ltb 0x11 b) _ _ _ _ (λ z. stops) (λ z. test (more n) (eqb left 0) _ _ _ _ (λ z. stops) (λ z.
-      guard (more n) (leb (length R / rowWidth) (c .rows)) (leb (length (more n R) / rowWidth) (c .rows)) refusals.noRoom loanRows (c .at) _ _ refl
+      room (more n) (leb (length R / rowWidth) (c .rows)) (leb (length (more n R) / rowWidth) (c .rows)) loanRows (c .at) _ _
+      (λ q. ap (λ l. leb (length l / rowWidth) (c .rows)) (none-more n R q))
       (λ h. let i = leb-false (length R / rowWidth) (c .rows) h in lt-leb (length (more n R) / rowWidth) (c .rows) (omega arith))
       (λ h. given (more n) (more-sets n (newRow b key (c .rows)) R (c .rows * rowWidth)
       (let i = leb-false (length R / rowWidth) (c .rows) h in omega arith)))))))
@@ -378,8 +410,8 @@ module _ {w : Longer} where
       let n = w .strings in
       let T = m .strings in
       simp more-at
-      (guard (λ x. x) (ltb (length T / spanWidth) (c .strings)) (ltb (length (more n T) / spanWidth) (c .strings)) refusals.lost 0 0 _ _ refl (λ h. counts n T 0 (c .strings) h)
-      (λ h. test (λ x. x) (leb (c .strings) i) _ _ _ _ (λ z. stops) (λ z. test (λ x. x) (spanUsed c (spanAt T i)) _ _ _ _ (λ z. gives) (λ z. tight refl)))))
+      (guard (λ x. x) (ltb (length T / spanWidth) (c .strings)) (ltb (length (more n T) / spanWidth) (c .strings)) refusals.lost 0 0 _ _ strays (λ h. counts n T 0 (c .strings) h)
+      (λ h. test (λ x. x) (leb (c .strings) i) _ _ _ _ (λ z. stops) (λ z. test (λ x. x) (spanUsed c (spanAt T i)) _ _ _ _ (λ z. gives) (λ z. tight strays)))))
 
   over-reserved : (z : ℕ) → Over w (by (looking (λ m. reserved z (m .store))))
   unfolding reserved
@@ -387,9 +419,10 @@ module _ {w : Longer} where
       let n = w .store in
       let B = m .store in
       let e = more-length n B in
-      guard (λ x. x) (ltb (length B) (c .store)) (ltb (length (more n B)) (c .store)) refusals.lost 0 0 _ _ refl
+      guard (λ x. x) (ltb (length B) (c .store)) (ltb (length (more n B)) (c .store)) refusals.lost 0 0 _ _ strays
       (λ h. let i = ltb-false (length B) (c .store) h in le-ltb (length (more n B)) (c .store) (omega arith))
-      (λ h. guard (λ x. x) (ltb (length B) (c .store + z)) (ltb (length (more n B)) (c .store + z)) refusals.noRoom loanStore (c .at) _ _ refl
+      (λ h. room (λ x. x) (ltb (length B) (c .store + z)) (ltb (length (more n B)) (c .store + z)) loanStore (c .at) _ _
+      (λ q. ap (λ l. ltb (length l) (c .store + z)) (none-more n B q))
       (λ h. let i = ltb-false (length B) (c .store + z) h in le-ltb (length (more n B)) (c .store + z) (omega arith)) (λ h. gives)))
 
   over-stored : (s : Span) (left b : ℕ) → Over w (by (onStore (stored s left b)))
@@ -397,7 +430,7 @@ module _ {w : Longer} where
   over-stored s left b = over-store (λ B c.
       let n = w .store in
       let e = more-length n B in
-      guard (more n) (ltb (length B) (c .store)) (ltb (length (more n B)) (c .store)) refusals.lost 0 0 _ _ refl
+      guard (more n) (ltb (length B) (c .store)) (ltb (length (more n B)) (c .store)) refusals.lost 0 0 _ _ strays
       (λ h. let i = ltb-false (length B) (c .store) h in le-ltb (length (more n B)) (c .store) (omega arith))
       (λ h. test (more n) (leb (s .size) left) _ _ _ _ (λ z. stops) (λ z. test (more n) (spanUsed c s) _ _ _ _
       (λ q. given (more n) (more-set n B (s .begin + (s .size - (left + 1))) b
@@ -413,8 +446,9 @@ module _ {w : Longer} where
   over-text-end s valid = over-strings (λ T c.
       let n = w .strings in
       let e = more-length n T in
-      guard (more n) (ltb (length T / spanWidth) (c .strings)) (ltb (length (more n T) / spanWidth) (c .strings)) refusals.lost 0 0 _ _ refl (λ h. counts n T 0 (c .strings) h)
-      (λ h. test (more n) valid _ _ _ _ (λ z. guard (more n) (leb (length T / spanWidth) (c .strings)) (leb (length (more n T) / spanWidth) (c .strings)) refusals.noRoom loanStrings (c .at) _ _ refl
+      guard (more n) (ltb (length T / spanWidth) (c .strings)) (ltb (length (more n T) / spanWidth) (c .strings)) refusals.lost 0 0 _ _ strays (λ h. counts n T 0 (c .strings) h)
+      (λ h. test (more n) valid _ _ _ _ (λ z. room (more n) (leb (length T / spanWidth) (c .strings)) (leb (length (more n T) / spanWidth) (c .strings)) loanStrings (c .at) _ _
+      (λ q. ap (λ l. leb (length l / spanWidth) (c .strings)) (none-more n T q))
       (λ h. let i = leb-false (length T / spanWidth) (c .strings) h in lt-leb (length (more n T) / spanWidth) (c .strings) (omega arith))
       (λ h. given (more n) (more-sets n (s .begin ∷ s .size ∷ []) T (c .strings * spanWidth) (let i = leb-false (length T / spanWidth) (c .strings) h in omega arith))))
       (λ z. stops)))
@@ -424,8 +458,9 @@ module _ {w : Longer} where
   over-named s = over-names (λ T c.
       let n = w .names in
       let e = more-length n T in
-      guard (more n) (ltb (length T / spanWidth) (c .names)) (ltb (length (more n T) / spanWidth) (c .names)) refusals.lost 0 0 _ _ refl (λ h. counts n T 0 (c .names) h)
-      (λ h. guard (more n) (leb (length T / spanWidth) (c .names)) (leb (length (more n T) / spanWidth) (c .names)) refusals.noRoom loanNames (c .at) _ _ refl
+      guard (more n) (ltb (length T / spanWidth) (c .names)) (ltb (length (more n T) / spanWidth) (c .names)) refusals.lost 0 0 _ _ strays (λ h. counts n T 0 (c .names) h)
+      (λ h. room (more n) (leb (length T / spanWidth) (c .names)) (leb (length (more n T) / spanWidth) (c .names)) loanNames (c .at) _ _
+      (λ q. ap (λ l. leb (length l / spanWidth) (c .names)) (none-more n T q))
       (λ h. let i = leb-false (length T / spanWidth) (c .names) h in lt-leb (length (more n T) / spanWidth) (c .names) (omega arith))
       (λ h. given (more n) (more-sets n (s .begin ∷ s .size ∷ []) T (c .names * spanWidth) (let i = leb-false (length T / spanWidth) (c .names) h in omega arith)))))
 
@@ -435,9 +470,10 @@ module _ {w : Longer} where
       let n = w .objects in
       let e = more-length n O in
       test (more n) (leb (c .rows) row) _ _ _ _ (λ z. stops) (λ z.
-      guard (more n) (ltb (length O) (c .objects)) (ltb (length (more n O)) (c .objects)) refusals.lost 0 0 _ _ refl
+      guard (more n) (ltb (length O) (c .objects)) (ltb (length (more n O)) (c .objects)) refusals.lost 0 0 _ _ strays
       (λ h. let i = ltb-false (length O) (c .objects) h in le-ltb (length (more n O)) (c .objects) (omega arith))
-      (λ h. guard (more n) (leb (length O) (c .objects)) (leb (length (more n O)) (c .objects)) refusals.noRoom loanObjects (c .at) _ _ refl
+      (λ h. room (more n) (leb (length O) (c .objects)) (leb (length (more n O)) (c .objects)) loanObjects (c .at) _ _
+      (λ q. ap (λ l. leb (length l) (c .objects)) (none-more n O q))
       (λ h. let i = leb-false (length O) (c .objects) h in lt-leb (length (more n O)) (c .objects) (omega arith))
       (λ h. given (more n) (more-set n O (c .objects) row (leb-false (length O) (c .objects) h))))))
 
@@ -446,10 +482,11 @@ module _ {w : Longer} where
   over-trait-end t = over-traits (λ U c.
       let n = w .traits in
       let e = more-length n U in
-      guard (more n) (ltb (length U / traitWidth) (c .traits)) (ltb (length (more n U) / traitWidth) (c .traits)) refusals.lost 0 0 _ _ refl
+      guard (more n) (ltb (length U / traitWidth) (c .traits)) (ltb (length (more n U) / traitWidth) (c .traits)) refusals.lost 0 0 _ _ strays
       (λ h. let i = ltb-false (length U / traitWidth) (c .traits) h in le-ltb (length (more n U) / traitWidth) (c .traits) (omega arith))
       (λ h. test (more n) (not (traitHolds c t)) _ _ _ _ (λ z. stops) (λ z.
-      guard (more n) (leb (length U / traitWidth) (c .traits)) (leb (length (more n U) / traitWidth) (c .traits)) refusals.noRoom loanTraits (c .at) _ _ refl
+      room (more n) (leb (length U / traitWidth) (c .traits)) (leb (length (more n U) / traitWidth) (c .traits)) loanTraits (c .at) _ _
+      (λ q. ap (λ l. leb (length l / traitWidth) (c .traits)) (none-more n U q))
       (λ h. let i = leb-false (length U / traitWidth) (c .traits) h in lt-leb (length (more n U) / traitWidth) (c .traits) (omega arith))
       (λ h. given (more n) (more-sets n (numbers t) U (c .traits * traitWidth) (let i = leb-false (length U / traitWidth) (c .traits) h in omega arith))))))
 
@@ -459,9 +496,9 @@ module _ {w : Longer} where
       let n = w .traits in
       let U = m .traits in
       simp more-at
-      (guard (λ x. x) (ltb (length U / traitWidth) (c .traits)) (ltb (length (more n U) / traitWidth) (c .traits)) refusals.lost 0 0 _ _ refl
+      (guard (λ x. x) (ltb (length U / traitWidth) (c .traits)) (ltb (length (more n U) / traitWidth) (c .traits)) refusals.lost 0 0 _ _ strays
       (λ h. let j = ltb-false (length U / traitWidth) (c .traits) h in le-ltb (length (more n U) / traitWidth) (c .traits) (omega (arith, more-length n U)))
-      (λ h. test (λ x. x) (leb (c .traits) i) _ _ _ _ (λ z. stops) (λ z. test (λ x. x) (traitHolds c (traitAt U i)) _ _ _ _ (λ z. gives) (λ z. tight refl)))))
+      (λ h. test (λ x. x) (leb (c .traits) i) _ _ _ _ (λ z. stops) (λ z. test (λ x. x) (traitHolds c (traitAt U i)) _ _ _ _ (λ z. gives) (λ z. tight strays)))))
 
   over-sealed-key : (i : ℕ) → Over w (by (looking (λ m. sealedKey i (m .names))))
   unfolding sealedKey
@@ -469,8 +506,8 @@ module _ {w : Longer} where
       let n = w .names in
       let N = m .names in
       simp more-at
-      (guard (λ x. x) (ltb (length N / spanWidth) (c .names)) (ltb (length (more n N) / spanWidth) (c .names)) refusals.lost 0 0 _ _ refl (λ h. counts n N 0 (c .names) h)
-      (λ h. test (λ x. x) (leb (c .names) i) _ _ _ _ (λ z. stops) (λ z. test (λ x. x) (spanUsed c (spanAt N i)) _ _ _ _ (λ z. gives) (λ z. tight refl)))))
+      (guard (λ x. x) (ltb (length N / spanWidth) (c .names)) (ltb (length (more n N) / spanWidth) (c .names)) refusals.lost 0 0 _ _ strays (λ h. counts n N 0 (c .names) h)
+      (λ h. test (λ x. x) (leb (c .names) i) _ _ _ _ (λ z. stops) (λ z. test (λ x. x) (spanUsed c (spanAt N i)) _ _ _ _ (λ z. gives) (λ z. tight strays)))))
 
   over-starred : (s : Span) → Over w (by (looking (λ m. starred s (m .store))))
   unfolding starred
@@ -478,15 +515,15 @@ module _ {w : Longer} where
       let n = w .store in
       let B = m .store in
       simp more-at
-      (test (λ x. x) (eqb (s .size) 1) _ _ _ _ (λ z. guard (λ x. x) (ltb (length B) (c .store)) (ltb (length (more n B)) (c .store)) refusals.lost 0 0 _ _ refl
+      (test (λ x. x) (eqb (s .size) 1) _ _ _ _ (λ z. guard (λ x. x) (ltb (length B) (c .store)) (ltb (length (more n B)) (c .store)) refusals.lost 0 0 _ _ strays
       (λ h. let i = ltb-false (length B) (c .store) h in le-ltb (length (more n B)) (c .store) (omega (arith, more-length n B)))
-      (λ h. test (λ x. x) (spanUsed c s) _ _ _ _ (λ z. gives) (λ z. tight refl))) (λ z. gives)))
+      (λ h. test (λ x. x) (spanUsed c s) _ _ _ _ (λ z. gives) (λ z. tight strays))) (λ z. gives)))
 
   over-referred : (row i : ℕ) → Over w (by (λ m. onRows (referred row i (m .objects)) m))
   over-referred row i = over-by {d = λ m. onRows (referred row i (m .objects)) m} (λ m c. up m (referred-like (w .rows) (w .objects) row i (m .objects) (m .rows) c))
     where
-      up : {A : Type 0} {x y : Out (List ℕ) A} (m : Memory) → Like (more (w .rows)) x y
-          → Like (wider w) (lift (λ R. memory R (m .store) (m .strings) (m .objects) (m .traits) (m .names)) x)
+      up : {A : Type 0} {x y : Out (List ℕ) A} (m : Memory) → Like w (more (w .rows)) x y
+          → Like w (wider w) (lift (λ R. memory R (m .store) (m .strings) (m .objects) (m .traits) (m .names)) x)
           (lift (λ R. memory R (wider w m .store) (wider w m .strings) (wider w m .objects) (wider w m .traits) (wider w m .names)) y)
       up m gives = gives
       up m stops = stops
@@ -569,16 +606,26 @@ module _ {w : Longer} where
     over-pair row col done rest s zero l i = over-ret
     over-pair row col done rest s (suc n) l i = over-bind (over-bind (h (keyOf s)) (λ x. over-counted row col done l)) (λ x. i)
 
-    over-pairs : (row col most done : ℕ) → col < rowWidth → Over w (r.pairs v row col most done)
+    -- pairs with any fuel, and with the one that they are read with
+    over-pairs-by : (row col most done : ℕ) → col < rowWidth → Over w (r.pairsBy v row col most done)
+    unfolding r.pairsBy
+    over-pairs-by row col zero done l = over-lost
+    over-pairs-by row col (suc most) done l =
+        over-bind over-plain (λ s. over-pair row col done (r.pairsBy v row col most (suc done)) s (s .size) l (over-pairs-by row col most (suc done) l))
+
+    over-pairs : (row col : ℕ) → col < rowWidth → Over w (r.pairs v row col 0)
     unfolding r.pairs
-    over-pairs row col zero done l = over-lost
-    over-pairs row col (suc most) done l =
-        over-bind over-plain (λ s. over-pair row col done (r.pairs v row col most (suc done)) s (s .size) l (over-pairs row col most (suc done) l))
+    over-pairs row col l = record { over = λ m c bs. over-pairs-by row col (suc (length bs)) 0 l .over m c bs }
+
+    -- a key of a dictionary and its value
+    over-couple : (row done : ℕ) → Over w (r.couple v row done)
+    unfolding r.couple
+    over-couple row done = over-bind (over-bind (h noKey) (λ x. over-key-end row done)) (λ x. h noKey)
 
     over-dynamics : (row y : ℕ) → Over w (r.dynamics v row y)
     unfolding r.dynamics
     over-dynamics row zero = over-ret
-    over-dynamics row (suc y) = over-pairs row colCount2 messageLimit 0 (omega arith)
+    over-dynamics row (suc y) = over-pairs row colCount2 (omega arith)
 
     over-members : (row : ℕ) (t : Trait) → Over w (r.members v row t)
     unfolding r.members
@@ -606,7 +653,7 @@ module _ {w : Longer} where
         over-bind (over-room row n) (λ s. over-bind (over-chars-of s n) (λ valid. over-bind (over-judged valid) (λ x. over-closed row)))
     over-new row k.date n = over-bind (over-number 7 0) (λ bits. over-date row bits)
     over-new row k.array n =
-        over-bind (over-bind (over-pairs row colCount messageLimit 0 (omega arith)) (λ x. over-entries _ (λ done. h noKey) row colCount2 n 0 (omega arith)))
+        over-bind (over-bind (over-pairs row colCount (omega arith)) (λ x. over-entries _ (λ done. h noKey) row colCount2 n 0 (omega arith)))
         (λ x. over-closed row)
     over-new row k.bytes n = over-bind (over-room row n) (λ s. over-bind (over-filled _ (λ left. over-ret) s n) (λ x. over-closed row))
     over-new row (k.raw z) n =
@@ -617,7 +664,7 @@ module _ {w : Longer} where
         (λ star. over-bind (over-bind (over-type row star s) (λ x. over-entries _ (λ done. h noKey) row colCount n 0 (omega arith))) (λ x. over-closed row))))
     over-new row k.dictionary n =
         over-bind over-byte (λ b. over-bind (over-bind (over-flagged row (k.weak b))
-        (λ x. over-entries _ (λ done. over-bind (h noKey) (λ x. h noKey)) row colCount n 0 (omega arith))) (λ x. over-closed row))
+        (λ x. over-entries _ (over-couple row) row colCount n 0 (omega arith))) (λ x. over-closed row))
 
     over-sized : (row : ℕ) (body : Body) (z : Size) → Over w (r.sizedOf v row body z)
     unfolding r.sizedOf
@@ -701,7 +748,7 @@ zeroed-long m m′ h =
 -- how the two end
 data Ends (w : Longer) : Ended → Ended → Type 0 where
   level : {e : Ended} → Ends w e (widened w e)
-  cramped : {n t p : ℕ} {m : Memory} {e : Ended} → full n ≡ true → Ends w (refused n t p m) e
+  cramped : {n t p : ℕ} {m : Memory} {e : Ended} → Tight w n t → Ends w (refused n t p m) e
 
 ended-wider : (w : Longer) {x y : Result Unit} → Wider w x y → Ends w (ended x) (ended y)
 unfolding ended
@@ -709,30 +756,37 @@ ended-wider w (fine {m = m} {c = c}) = level {e = finished c m}
 ended-wider w (same {n = n} {t = t} {p = p} {m = m}) = rw (zeroed-wider w m) (level {e = refused n t p (zeroed m)})
 ended-wider w (short e) = cramped e
 
-is-full : (n : ℕ) → full n ≡ true → n ≢ refusals.lost → n ≡ refusals.noRoom
-is-full n e h = elim (ℕ-discrete n refusals.noRoom) [
-  | yes q ↦ q
-  | no q ↦ (let a : eqb n refusals.noRoom ≡ false = ne-eqb n refusals.noRoom q in let b : eqb n refusals.lost ≡ false = ne-eqb n refusals.lost h in let z = rw (a, b) at e in clash cc)
-]
-
 -- not refused for want of room
 abbrev pub Roomy : Ended → Type 0
 Roomy e = (told place : ℕ) (m : Memory) → e ≢ refused refusals.noRoom told place m
 
--- what isn't refused with 10, longer loans read the same: number, told value and place, or the cursor; and the loans have the same with zeros behind
-pub more-room : (m m′ : Memory) (bs : List ℕ) → Bytes bs → faultOf m ≡ 0 → faultOf m′ ≡ 0 → NoShorter m m′ → Roomy (reading m bs)
-    → reading m′ bs ≡ widened (beyond m m′) (reading m bs)
-unfolding reading
-more-room m m′ bs b f f′ h roomy =
-    rw (f′, zeroed-long m m′ h) (rw f (met (ended-wider (beyond m m′) (over-value openLimit noKey .over (zeroed m) fresh bs)) (rw f at lostless) (rw f at roomy)))
-  where
-    lostless : (n told place : ℕ) (m₁ : Memory) → reading m bs ≡ refused n told place m₁ → n ≢ refusals.lost
-    lostless = never-lost m bs b
+-- with longer loans
+module _ (m m′ : Memory) (bs : List ℕ) (octets : Bytes bs) (fault : faultOf m ≡ 0) (fault′ : faultOf m′ ≡ 0) (longer : NoShorter m m′) where
+  -- how the two readings end
+  room-ends : Ends (beyond m m′) (reading m bs) (reading m′ bs)
+  unfolding reading
+  room-ends =
+      rw (fault′, zeroed-long m m′ longer) (rw fault (ended-wider (beyond m m′) (over-value openLimit noKey .over (zeroed m) fresh bs)))
 
-    met : {d e : Ended} → Ends (beyond m m′) d e → ((n told place : ℕ) (m₁ : Memory) → d ≡ refused n told place m₁ → n ≢ refusals.lost) → Roomy d
-        → e ≡ widened (beyond m m′) d
-    met level l q = refl
-    met (cramped {n = n} {t = t} {p = p} {m = m₁} e) l q = let z : n ≡ refusals.noRoom = is-full n e (l n t p m₁ refl) in absurd (q t p m₁ (rw z))
+  -- what isn't refused with 10 reads the same: number, told value and place, or the cursor; and the loans have the same with zeros behind
+  pub more-room : Roomy (reading m bs) → reading m′ bs ≡ widened (beyond m m′) (reading m bs)
+  more-room roomy = met room-ends (never-lost m bs octets) roomy
+    where
+      met : {d e : Ended} → Ends (beyond m m′) d e → ((n told place : ℕ) (m₁ : Memory) → d ≡ refused n told place m₁ → n ≢ refusals.lost) → Roomy d
+          → e ≡ widened (beyond m m′) d
+      met level l q = refl
+      met (cramped {p = p} {m = m₁} strays) l q = absurd (l refusals.lost 0 p m₁ refl refl)
+      met (cramped {t = t} {p = p} {m = m₁} (lacks g)) l q = absurd (q t p m₁ refl)
+
+  -- 10 tells the loan that lacks room: while that one isn't longer, longer ones of the others change nothing
+  pub same-room : (loan place : ℕ) (m₁ : Memory) → reading m bs ≡ refused refusals.noRoom loan place m₁ → extra (beyond m m′) loan ≡ 0
+      → reading m′ bs ≡ widened (beyond m m′) (reading m bs)
+  same-room loan place m₁ e z = met room-ends e
+    where
+      met : {d e : Ended} → Ends (beyond m m′) d e → d ≡ refused refusals.noRoom loan place m₁ → e ≡ widened (beyond m m′) d
+      met level q = refl
+      met (cramped strays) q = clash cc
+      met (cramped {t = t} (lacks g)) q = let i : t ≡ loan = cc in let j : 0 < extra (beyond m m′) loan = rw i at g in absurd (omega arith)
 
 -- ---- the used parts
 

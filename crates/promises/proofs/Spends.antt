@@ -22,13 +22,14 @@ use Rattle.wire.specs.declared.Date.the-variants.{Millis, Refused}
 use Rattle.wire.specs.Big.{digitOf}
 use Rattle.wire.specs.U29.{partOf}
 use Rattle.wire.specs.Word.{sizeOf}
+use Rattle.format.proofs.Own.{size-is}
 use Rattle.wire.specs.Date.{dateOf}
 use Rattle.wire.specs.Sign.{integerOf, columnOf}
 use Rattle.wire.proofs.U29.{Step, step, astray, fourth, last, more}
 use Rattle.utf8.specs.States.{stepOf}
 use Rattle.utf8.specs.Grammar.{validText}
 use Rattle.format.specs.Decide.{Out, give, refuse, lost, Decision, lift, looking, onRows, onStore, onStrings, onObjects, onNames}
-use Rattle.format.specs.Decide.{Width, closed, numbered, integerEnd, dated, dateEnd, bodied, classed, objectClass, vectorClass, flagged, counted, grown}
+use Rattle.format.specs.Decide.{Width, closed, numbered, integerEnd, dated, dateEnd, bodied, classed, objectClass, vectorClass, flagged, counted, keyEnd, grown}
 use Rattle.format.specs.Decide.{marker, reserved, stored, judged, entered, named, sealedKey, starred, oldText, textEnd, stringsTo, traitsTo}
 use Rattle.format.specs.Reading as our
 use Rattle.format.specs.Reading.{ResultOf, ok, bad, Reader, _>>=_, ret, decided, by}
@@ -42,7 +43,7 @@ use Rattle.format.proofs.Fuel.{Takes, takes-bind, takes-ret, takes-less, takes-
 use Rattle.format.proofs.Fuel.{text-of-takes}
 use Rattle.format.proofs.Holds.{Fits, Uses, Within, Any}
 use Rattle.format.proofs.Enough.{goes-closed, goes-numbered, goes-date, goes-bodied, goes-class, goes-type, goes-flagged}
-use Rattle.format.proofs.Enough.{goes-counted, goes-grown, goes-marker, goes-judged, goes-entered, goes-named, goes-stored, goes-reserved}
+use Rattle.format.proofs.Enough.{goes-counted, goes-key-end, goes-grown, goes-marker, goes-judged, goes-entered, goes-named, goes-stored, goes-reserved}
 use Rattle.format.proofs.Enough.{goes-sealed-key, goes-starred}
 use Rattle.promises.proofs.Fares.{All, Nice, Paid, noTraits, small-kept, Gives, gives-bind, gives-then, gives-ret, gives-fail, gives-up, Small, Pays, pays-bind, pays-told, pays-ret, pays-made}
 use Rattle.promises.proofs.Fares.{calm-ret, Keeps, halts, stays, Spends, pays-free, pays-by, pays-flat, pays-end, pays-lost, pays-flat-std}
@@ -110,6 +111,11 @@ module _ (row : ℕ) where
         goes = goes-counted row col done;
         keeps = λ m c. search keeping;
       }
+
+  -- between a key and its value
+  pub spends-key-end : (done : ℕ) → Spends Any (looking (λ m. keyEnd row done (m .rows))) nothing
+  unfolding keyEnd
+  spends-key-end done = record { goes = goes-key-end row done; keeps = λ m c. search keeping }
 
   pub spends-grown : (w : Width) (s : Span) (n : ℕ) → Spends Any (onRows (grown row w s n)) nothing
   unfolding grown
@@ -310,8 +316,8 @@ judged-gives t = by-test (validText t)
     by-test true = gives-ret refl
     by-test false = gives-fail takes-fail (λ s p bs. tt)
 
-entered-gives : (t : List ℕ) → Gives (λ e. e ≡ t) (std.entered t)
-unfolding std.entered
+entered-gives : (t : List ℕ) → Gives (λ e. e ≡ t) (std.keptText t)
+unfolding std.keptText
 entered-gives [] = gives-ret refl
 entered-gives (b ∷ t) = gives-fail takes-change (λ s p bs. refl)
 
@@ -323,7 +329,7 @@ chars-long n = gives-then (bytes-long n) (λ t e. gives-fail (judged-gives t .ta
     long t e true s p bs = e
     long t e false s p bs = tt
 
-ended-text : (t : List ℕ) → Gives (λ e. e ≡ t) (judgedText t >>= std.entered)
+ended-text : (t : List ℕ) → Gives (λ e. e ≡ t) (judgedText t >>= std.keptText)
 ended-text t = gives-then (judged-gives t) (λ u q. rw q (entered-gives t))
 
 pub gives-weak : {B : Type 0} {R Q : B → Type 0} {g : Std B} → Gives R g → ((b : B) → R b → Q b) → Gives Q g
@@ -394,15 +400,15 @@ pays-old i = record { takes = takes-lookup (λ s. s .texts) [] i; pays = λ T m�
     old T m₀ c₀ k m c s p bs u t x false = tt
     old T m₀ c₀ k m c s p bs u t x true = λ fit f. nice T m₀ c₀ k m c s bs u t x (ltb (length (m .strings) / spanWidth) (c .strings)) (leb (c .strings) i) (spanUsed c (spanAt (m .strings) i)) refl
 
-no-text : (v : Bool) → Pays ofText Any Sized nothing (ret noSpan) (cond v (ret []) (fail refusals.badText 0) >>= std.entered)
-unfolding std.entered
+no-text : (v : Bool) → Pays ofText Any Sized nothing (ret noSpan) (cond v (ret []) (fail refusals.badText 0) >>= std.keptText)
+unfolding std.keptText
 no-text true = pays-ret (omega arith) refl
 no-text false = pays-never
 
 -- the end of a text that enters the table
 text-end : (n : ℕ) (x : Span) (valid : Bool) (t : List ℕ) (v : Bool) → x .size ≡ suc n → length t ≡ suc n
-    → Pays ofText Any Sized (room 0 (suc n) 0 0 0 0) (by (onStrings (textEnd x valid))) (cond v (ret t) (fail refusals.badText 0) >>= std.entered)
-unfolding std.entered textEnd ofText
+    → Pays ofText Any Sized (room 0 (suc n) 0 0 0 0) (by (onStrings (textEnd x valid))) (cond v (ret t) (fail refusals.badText 0) >>= std.keptText)
+unfolding std.keptText textEnd ofText
 text-end n x valid t false e q = pays-never
 text-end n x valid [] true e q = absurd (omega arith)
 text-end n x valid (b ∷ t) true e q =
@@ -433,7 +439,7 @@ module _ (at : Span → Reader Unit) (idle : (s : Span) → Idle (at s)) where
   unfolding our.textOf std.textOf std.chars std.bytes
   new-text zero = no-text (validText [])
   new-text (suc n) =
-      pays-flat-std (our.textOf at (New (suc n))) (std.bytes (suc n)) judgedText std.entered
+      pays-flat-std (our.textOf at (New (suc n))) (std.bytes (suc n)) judgedText std.keptText
       (pays-by (room 0 (suc n) 0 0 0 0) (room 0 (suc n) 0 0 0 0) _ (omega arith) (gives-then (bytes-long (suc n)) (λ t e. text-room t e)) (spends-reserved (suc n))
       (λ s q. pays-flat (at s) (λ x. our.chars s n 0) (λ valid. by (onStrings (textEnd s valid))) (idle-then (at s) _ (idle s)
       (pays-told (λ t. length t ≡ suc n) (λ t. room 0 (suc n) 0 0 0 0) _ _ (bytes-long (suc n)) (pays-chars s n 0) (λ t e. omega arith)
@@ -443,13 +449,13 @@ module _ (at : Span → Reader Unit) (idle : (s : Span) → Idle (at s)) where
       text-holds : (t : List ℕ) → length t ≡ suc n → Within (room 0 (suc n) 0 0 0 0) (ofText t)
       text-holds t e = (unfold ofText in omega arith)
 
-      text-room : (t : List ℕ) → length t ≡ suc n → Gives (λ z. Within (room 0 (suc n) 0 0 0 0) (ofText z)) (judgedText t >>= std.entered)
+      text-room : (t : List ℕ) → length t ≡ suc n → Gives (λ z. Within (room 0 (suc n) 0 0 0 0) (ofText z)) (judgedText t >>= std.keptText)
       text-room t e = gives-weak (ended-text t) (λ z q. rw q (text-holds t e))
 
   pub pays-text : Pays ofText Any Sized nothing (our.text at) std.text
   unfolding our.text std.text
-  pays-text = pays-bind None _ _ (pays-word 3 0) (λ w. omega arith) (λ w. gives-up (λ e. (omega arith, λ i. i)) (text-of-takes (sizeOf w)))
-      (λ a w e. rw e (by-size (sizeOf w)))
+  pays-text = pays-bind None _ _ (pays-word 3 0) (λ w. omega arith) (λ w. gives-up (λ e. (omega arith, λ i. i)) (text-of-takes (std.sizeSays w)))
+      (λ a w e. rw (e, size-is w) (by-size (sizeOf w)))
     where
       by-size : (z : Size) → Pays ofText Any Sized nothing (our.textOf at z) (std.textOf z)
       by-size (Old i) = (unfold our.textOf std.textOf in pays-old i)

@@ -203,7 +203,7 @@ octets-tree R B h (suc levels) i = octets-node (treeAt levels R B) R B h (octets
 -- what is written of a store of bytes are bytes, whatever the rows
 pub encode-bytes : (R B : List ℕ) → Bytes B → Bytes (encode (unfolded R B 0))
 unfolding unfolded
-encode-bytes R B h = bytes-of (octets-tree R B (octets-of B h) (rowsIn R * rowsIn R + 1) 0)
+encode-bytes R B h = bytes-of (octets-tree R B (octets-of B h) (rowsIn R) 0)
 
 -- ---- through the calls
 
@@ -217,9 +217,9 @@ pub record Again (m : Memory) (bs : List ℕ) (n : ℕ) (t : Tree) : Type 0 wher
   pub ends : (parts : List (List ℕ)) → joined parts ≡ bs → endRead (endBy (fedPieces (beginCall m) parts)) ≡ read (Finished rows bytes 0) loans
   pub takes : (parts : List (List ℕ)) → joined parts ≡ bs → tally (beginCall m) parts ≡ n
 
-again : (m : Memory) (bs : List ℕ) (n : ℕ) (t : Tree) → Returns (reading m bs) n t → Again m bs n t
+again : (m : Memory) (bs : List ℕ) (n : ℕ) (t : Tree) → Bytes bs → Returns (reading m bs) n t → Again m bs n t
 unfolding readCall
-again m bs n t r =
+again m bs n t o r =
     let c = r .cursor in
     let reads : readCall m bs ≡ read (Finished (c .rows) (c .store) n) (r .memory) =
     ap readOf (r .finishes) ∙ ap (λ k. read (Finished (c .rows) (c .store) k) (r .memory)) (r .takes) in
@@ -229,8 +229,8 @@ again m bs n t r =
       loans = r .memory;
       reads = reads;
       unfolds = r .unfolds;
-      ends = λ parts q. feeding-calls m parts ∙ ap unread (ap (readCall m) q ∙ reads);
-      takes = λ parts q. taken-calls m parts (c .rows) (c .store) n (r .memory) (ap (readCall m) q ∙ reads);
+      ends = λ parts q. feeding-calls m parts (rw q o) ∙ ap unread (ap (readCall m) q ∙ reads);
+      takes = λ parts q. taken-calls m parts (c .rows) (c .store) n (r .memory) (rw q o) (ap (readCall m) q ∙ reads);
     }
 
 -- an accepted write of a store of bytes and rows of 64-bit numbers
@@ -251,8 +251,8 @@ module _ (R B out P : List ℕ) (n : ℕ) (wide : Wide R) (store : Bytes B) (acc
     -- and are read back, whatever bytes follow them
     pub call-trip : (rest : List ℕ) → Bytes rest → Again m (take n P ++ rest) n (unfolded R B 0)
     call-trip rest h =
-        again m (take n P ++ rest) n (unfolded R B 0)
-        (round-trip R B out P n wide wrote m room lent rest (bytes-of (append (octets-of (take n P) written-bytes) (octets-of rest h))))
+        let o : Bytes (take n P ++ rest) = bytes-of (append (octets-of (take n P) written-bytes) (octets-of rest h)) in
+        again m (take n P ++ rest) n (unfolded R B 0) o (round-trip R B out P n wide wrote m room lent rest o)
 
     pub call-trip-alone : Again m (take n P) n (unfolded R B 0)
     call-trip-alone = rw (append-nil (take n P)) at (call-trip [] (bytes-of empty))

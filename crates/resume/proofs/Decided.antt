@@ -193,6 +193,13 @@ module _ (R B T O U N : List ℕ) (c : Cursor) where
     pub stop-sealed-key : (y : Refusal) → o ≡ stopped y → on (looking (λ m. d.sealedKey i (m .names)) (memory R B T O U N) c) (memory R B T O U N) k ≡ refusedWith y (memory R B T O U N)
     stop-sealed-key = refused (memory R B T O U N) o (d.sealedKey i N c) e k
 
+  module _ (row done : ℕ) (o : Out Unit Unit) (e : o ≡ d.keyEnd row done R c) (k : Unit → Cursor → Memory → State) where
+    pub gave-key-end : (a : Unit) (c′ : Cursor) → o ≡ give a tt c′ → on (looking (λ m. d.keyEnd row done (m .rows)) (memory R B T O U N) c) (memory R B T O U N) k ≡ k a c′ (memory R B T O U N)
+    gave-key-end = looked (memory R B T O U N) o (d.keyEnd row done R c) e k
+
+    pub stop-key-end : (y : Refusal) → o ≡ stopped y → on (looking (λ m. d.keyEnd row done (m .rows)) (memory R B T O U N) c) (memory R B T O U N) k ≡ refusedWith y (memory R B T O U N)
+    stop-key-end = refused (memory R B T O U N) o (d.keyEnd row done R c) e k
+
   module _ (p : Span) (o : Out Unit Bool) (e : o ≡ d.starred p B c) (k : Bool → Cursor → Memory → State) where
     pub gave-starred : (a : Bool) (c′ : Cursor) → o ≡ give a tt c′ → on (looking (λ m. d.starred p (m .store)) (memory R B T O U N) c) (memory R B T O U N) k ≡ k a c′ (memory R B T O U N)
     gave-starred = looked (memory R B T O U N) o (d.starred p B c) e k

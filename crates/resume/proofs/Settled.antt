@@ -1,26 +1,23 @@
 -- What a step's function answers, by the state that the definition has: it waits, over the frames there or one more; it refuses; or it is finished.
 use mathlib.Core.Path.{_≡_, refl, sym, ap, _∙_}
 use mathlib.Core.List.{List, _∷_}
-use Prim.Native.Nat.{ℕ, _+_, _*_, _≤_, _<_}
+use Prim.Native.Nat.{ℕ, _+_, _*_}
 use native.Mathlib.Numerals.{add-one}
-use borrow.Author.Tests.{le-leb, lt-leb}
 use lib.ListN.{length}
 use lib.Seq.{sets}
 use Rattle.rows.specs.declared.Cursor.{Cursor}
 use Rattle.rows.specs.declared.Key.{Key}
-use Rattle.rows.specs.Memory.{Memory, memory, zeroed, messageLimit}
+use Rattle.rows.specs.Memory.{Memory, memory, zeroed}
 use Rattle.format.specs.declared.Frame.{Frame}
 use Rattle.format.specs.declared.Work.{Work}
-use Rattle.format.specs.Step.{Pairing, Mode, State, wait, atMarker, atString, forKey, nextKey}
+use Rattle.format.specs.Step.{Mode, State, wait, atMarker}
 use Rattle.format.specs.Numbers.{framesOf, frameNumbers, workOf}
 use Rattle.decide.specs.declared.Refusal.{Refusal}
 use Rattle.resume.specs.declared.Next.the-variants.{Wait, Finished, Refused}
-use Rattle.resume.specs.Steps.{After, after, afterOf, settled, ended, refusalOf}
+use Rattle.resume.specs.Steps.{After, after, afterOf, settled, ended}
 use Rattle.resume.proofs.Decided.{refusedWith}
 use Rattle.states.proofs.Frames.{length-frames, laid-frames, laid-next}
 use Rattle.format.specs.Numbers.{frameWidth}
-use Rattle.format.specs.Refusals as refusals
-use Rattle.rows.specs.Memory.{messageMost}
 
 module _ (F : List ℕ) (depth : ℕ) (c : Cursor) (m : Memory) (w : Work) (x : Mode) (e : w ≡ workOf x) where
   pub waits : settled (after (Wait w c depth) F m) ≡ afterOf F (wait x (framesOf F depth) c m)
@@ -60,17 +57,6 @@ refused-as R R′ B T O U N r y s l p q = rw (p, zeroed-rows R R′ B T O U N l)
 pub finishes : (F : List ℕ) (c : Cursor) (m : Memory) (s : State) → s ≡ ended c m → settled (after (Finished c) F m) ≡ afterOf F s
 unfolding settled afterOf
 finishes F c m s e = rw e
-
--- the next key of pairs, with too many before it or not
-module _ (F : List ℕ) (depth done : ℕ) (p : Pairing) (c : Cursor) (m : Memory) where
-  pub no-key-next : (r : Refusal) → messageMost ≤ done → r ≡ refusalOf refusals.lost 0 0 → settled (after (Refused r) F m) ≡ afterOf F (nextKey done p (framesOf F depth) c m)
-  unfolding messageLimit
-  no-key-next r h e = refuses F m m r (refusalOf refusals.lost 0 0) _ refl e (rw (le-leb messageMost done h))
-
-  pub key-next : (w : Work) → done < messageMost → w ≡ workOf (atString (forKey p))
-      → settled (after (Wait w c depth) F m) ≡ afterOf F (nextKey done p (framesOf F depth) c m)
-  unfolding messageLimit
-  key-next w h e = waits F depth c m w (atString (forKey p)) e ∙ ap (afterOf F) (rw (lt-leb messageMost done h))
 
 -- a value is next, its key and the frame around it being these
 pub opens : (F : List ℕ) (r : After) (k k′ : Key) (f f′ : Frame) (ts : List Frame) (c : Cursor) (m : Memory) (s : State)

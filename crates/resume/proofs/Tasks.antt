@@ -11,18 +11,17 @@ use lib.Dec.{leb, ltb}
 use lib.ListN.{length}
 use Rattle.rows.specs.declared.Cursor.{Cursor}
 use Rattle.rows.specs.declared.Key.{Key}
-use Rattle.rows.specs.Memory.{Memory, noKey, messageLimit}
+use Rattle.rows.specs.Memory.{Memory, noKey}
 use Rattle.wire.specs.Put.{with1}
 use Rattle.format.specs.declared.Frame.{Frame}
 use Rattle.format.specs.Decide.{Out, stop, give, lost, lift, onRows, looking, closed, counted, sealedKey}
-use Rattle.format.specs.Step.{taskOf, frame, frameOf, Task, membersOf, strange, assoc, dynamics, State, wait, on, go, entry}
-use Rattle.format.specs.Step.{atMarker, nextKey}
+use Rattle.format.specs.Step.{taskOf, frame, frameOf, Task, membersOf, keysOf, strange, assoc, dynamics, State, wait, on, go, entry}
+use Rattle.format.specs.Step.{atMarker, atString, forKey}
 use Rattle.decide.specs.declared.Refusal.{Refusal}
 use Rattle.decide.specs.Outcomes.{leaving}
 use Rattle.resume.specs.Steps.{Listed, refusalOf}
 use Rattle.resume.proofs.Decided.{refusedWith}
 use Rattle.format.specs.Refusals as refusals
-use Rattle.rows.specs.Memory.{messageMost}
 
 -- ---- going on, k being what comes when the value is finished
 
@@ -48,7 +47,8 @@ module _ (k : Cursor → Memory → State) (ts : List Frame) (c : Cursor) (m : M
   unfolding go
   no-members row left done first y z e = rw (z, e)
 
-  pub dynamic-members : (row left done first y : ℕ) → left ≡ 0 → (y ≡ 0 → ⊥) → go k ts (membersOf row left done first y) c m ≡ nextKey 0 (dynamics row 0) ts c m
+  pub dynamic-members : (row left done first y : ℕ) → left ≡ 0 → (y ≡ 0 → ⊥)
+      → go k ts (membersOf row left done first y) c m ≡ wait (atString (forKey (dynamics row 0))) ts c m
   unfolding go
   dynamic-members row left done first zero z e = absurd (e refl)
   dynamic-members row left done first (suc y) z e = rw z
@@ -61,11 +61,11 @@ module _ (k : Cursor → Memory → State) (ts : List Frame) (c : Cursor) (m : M
   more-members row (suc n) done first y z = let d : suc n - 1 ≡ n = omega arith in rw d
 
 module _ (k : Cursor → Memory → State) (ts : List Frame) (c : Cursor) (m : Memory) (f : Frame) where
-  pub go-pairs : f .task ≡ 1 → go k ts (taskOf f) c m ≡ nextKey (f .done) (assoc (f .row) (f .left) (f .done)) ts c m
+  pub go-pairs : f .task ≡ 1 → go k ts (taskOf f) c m ≡ wait (atString (forKey (assoc (f .row) (f .left) (f .done)))) ts c m
   unfolding go taskOf
   go-pairs e = rw e
 
-  pub go-dynamics : f .task ≡ 2 → go k ts (taskOf f) c m ≡ nextKey (f .done) (dynamics (f .row) (f .done)) ts c m
+  pub go-dynamics : f .task ≡ 2 → go k ts (taskOf f) c m ≡ wait (atString (forKey (dynamics (f .row) (f .done)))) ts c m
   unfolding go taskOf
   go-dynamics e = rw e
 
@@ -122,10 +122,10 @@ module _ (row left done first y : ℕ) (c : Cursor) (m : Memory) (k : Task → C
   counts t col task values = rw add-one
 
 -- a dictionary's key, before its value
-pub to-values : (f g : Frame) (c : Cursor) (m : Memory) (k : Task → Cursor → Memory → State) → f .task ≡ 6 → g ≡ frame 7 (f .row) (f .left) (f .done) 0 0
-    → k (taskOf g) c m ≡ entry (taskOf f) c m k
-unfolding entry taskOf
-to-values f g c m k e p = rw (p, e)
+pub entry-keys : (f : Frame) (c : Cursor) (m : Memory) (k : Task → Cursor → Memory → State) → f .task ≡ 6
+    → entry (keysOf (f .row) (f .left) (f .done)) c m k ≡ entry (taskOf f) c m k
+unfolding taskOf
+entry-keys f c m k e = rw e
 
 -- no task has such a number
 pub strange-task : (f : Frame) → (f .task ≡ 1 → ⊥) → (f .task ≡ 2 → ⊥) → (f .task ≡ 3 → ⊥) → (f .task ≡ 4 → ⊥) → (f .task ≡ 5 → ⊥) → (f .task ≡ 6 → ⊥)
@@ -144,12 +144,12 @@ pub go-strange : (t : Task) (ts : List Frame) (c : Cursor) (m : Memory) (k : Cur
 unfolding go
 go-strange t ts c m k p = rw p
 
--- an entry that was counted was not one too many
+-- an entry that was counted has a row
 pub counted-below : (row col done : ℕ) (R R′ : List ℕ) (c c′ : Cursor) (o : Out Unit Unit)
-    → with1 o R′ ≡ leaving R (counted row col done R c) → o ≡ give tt tt c′ → done < messageMost
-unfolding counted messageLimit
-counted-below row col done R R′ c c′ o e p = below (leb messageMost done) refl
+    → with1 o R′ ≡ leaving R (counted row col done R c) → o ≡ give tt tt c′ → done < c .rows
+unfolding counted
+counted-below row col done R R′ c c′ o e p = below (leb (c .rows) done) refl
   where
-    below : (b : Bool) → leb messageMost done ≡ b → done < messageMost
-    below false q = leb-false messageMost done q
+    below : (b : Bool) → leb (c .rows) done ≡ b → done < c .rows
+    below false q = leb-false (c .rows) done q
     below true q = absurd (let r : with1 o R′ ≡ with1 (stop refusals.lost 0 0) R = (rw q at e) in let z : _≡_ {A = ℕ} 0 1 = cc in omega arith)

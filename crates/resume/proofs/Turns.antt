@@ -1,19 +1,16 @@
 -- A task goes on: what comes when its value is finished comes after it as it would be with nothing around.
 use mathlib.Core.Path.{_≡_, refl, sym, ap, _∙_}
-use mathlib.Core.Bool.{Bool, true, false, cond}
 use mathlib.Core.List.{List, [], _∷_}
 use Prim.Native.Nat.{ℕ, zero, suc, _+_}
 use native.Mathlib.Omega.{arith}
-use lib.Dec.{leb}
 use types.Run.{OneOf, miss}
 use denote.Enum.Declared.{tagOf}
 use Rattle.rows.specs.declared.Cursor.{Cursor}
-use Rattle.rows.specs.Memory.{Memory, messageLimit}
+use Rattle.rows.specs.Memory.{Memory}
 use Rattle.format.specs.declared.Frame.{Frame}
 use Rattle.format.specs.Decide.{Out, stop, give, onRows, looking, closed, sealedKey}
 use Rattle.format.specs.Reading.{finished, refused}
-use Rattle.format.specs.Step.{Task, pairsOf, itemsOf, membersOf, keysOf, valuesOf, strange, assoc, dynamics}
-use Rattle.format.specs.Step.{State, wait, over, none, on, go, pop, broken}
+use Rattle.format.specs.Step.{Task, pairsOf, itemsOf, membersOf, keysOf, valuesOf, strange, State, wait, over, none, on, go, pop}
 use Rattle.format.specs.Numbers.{framesOf}
 use Rattle.resume.proofs.Next as next
 use Rattle.resume.specs.declared.Next.{Next}
@@ -26,12 +23,6 @@ then (wait x ts c m) k = wait x ts c m
 then (over (finished c m)) k = k c m
 then (over (refused n told place m)) k = over (refused n told place m)
 then (none m) k = none m
-
--- a test of what waits
-tested : (b : Bool) (m : Memory) (x : State) (k : Cursor → Memory → State) → then x k ≡ x → cond b (broken m) x ≡ then (cond b (broken m) x) k
-unfolding then
-tested true m x k e = refl
-tested false m x k e = sym e
 
 shut : (o : Out Memory Unit) (m : Memory) (k : Cursor → Memory → State) → on o m (λ x c m. k c m) ≡ then (on o m (λ x c m. ended c m)) k
 unfolding then
@@ -47,12 +38,11 @@ waited (give a m′ c) m k f h = sym (h a c m′)
 
 go-then : (k : Cursor → Memory → State) (ts : List Frame) (t : Task) (c : Cursor) (m : Memory) → go k ts t c m ≡ then (go ended ts t c m) k
 unfolding go then
-go-then k ts (pairsOf (assoc row n done)) c m = tested (leb messageLimit done) m _ k refl
-go-then k ts (pairsOf (dynamics row done)) c m = tested (leb messageLimit done) m _ k refl
+go-then k ts (pairsOf p) c m = refl
 go-then k ts (itemsOf i row zero done) c m = shut (onRows (closed row) m c) m k
 go-then k ts (itemsOf i row (suc n) done) c m = refl
 go-then k ts (membersOf row zero done first zero) c m = shut (onRows (closed row) m c) m k
-go-then k ts (membersOf row zero done first (suc y)) c m = tested (leb messageLimit 0) m _ k refl
+go-then k ts (membersOf row zero done first (suc y)) c m = refl
 go-then k ts (membersOf row (suc n) done first y) c m = waited (looking (λ m. sealedKey (first + done) (m .names)) m c) m k _ (λ a c m. refl)
 go-then k ts (keysOf row zero done) c m = shut (onRows (closed row) m c) m k
 go-then k ts (keysOf row (suc n) done) c m = refl

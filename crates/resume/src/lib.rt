@@ -16,7 +16,6 @@ use format::refusals;
 use format::tasks;
 use rows::Cursor;
 use rows::Key;
-use rows::MESSAGE_LIMIT;
 use rows::Span;
 use rows::Trait;
 use rows::columns;
@@ -203,14 +202,11 @@ fn marker_work(key: Key) -> Work
 
 // ---- tasks
 
-// The next key of an array, if there are not too many before it.
+// The next key of an array.
 pub fn next_key(c: Cursor, depth: usize, row: usize, count: usize, done: usize) -> Next
     ensures { λ x. ⌜ ((F R B T O U N : List ℕ)
-        → Steps x (kept F) depth (kept R) (kept B) (kept T) (kept O) (kept U) (kept N) (λ ts m. s.nextKey done (s.assoc row count done) ts c m)) ⌝ }
+        → Steps x (kept F) depth (kept R) (kept B) (kept T) (kept O) (kept U) (kept N) (λ ts m. s.wait (s.atString (s.forKey (s.assoc row count done))) ts c m)) ⌝ }
 {
-    if MESSAGE_LIMIT <= done {
-        return Next::Refused(decide::lost());
-    }
     Next::Wait(
         string_work(purposes::KEY, row, no_trait(), count, done),
         c,
@@ -221,11 +217,8 @@ pub fn next_key(c: Cursor, depth: usize, row: usize, count: usize, done: usize) 
 // The next key of an object.
 fn next_dynamic_key(c: Cursor, depth: usize, row: usize, done: usize) -> Next
     ensures { λ x. ⌜ ((F R B T O U N : List ℕ)
-        → Steps x (kept F) depth (kept R) (kept B) (kept T) (kept O) (kept U) (kept N) (λ ts m. s.nextKey done (s.dynamics row done) ts c m)) ⌝ }
+        → Steps x (kept F) depth (kept R) (kept B) (kept T) (kept O) (kept U) (kept N) (λ ts m. s.wait (s.atString (s.forKey (s.dynamics row done))) ts c m)) ⌝ }
 {
-    if MESSAGE_LIMIT <= done {
-        return Next::Refused(decide::lost());
-    }
     Next::Wait(
         string_work(purposes::DYNAMIC_KEY, row, no_trait(), 0, done),
         c,
@@ -385,6 +378,18 @@ fn count_entry(rows: &mut [usize], c: Cursor, f: Frame, col: usize, task: usize)
     Entry::On(g, c1)
 }
 
+// A key of a dictionary is finished: its value is next.
+fn key_done(rows: &[usize], c: Cursor, f: Frame) -> Entry
+    ensures { λ x. ⌜ ((B T O U N : List ℕ) (k : s.Task → Cursor → Memory → s.State) → onEntry x (memory (now (rows .entry)) B T O U N) k
+        ≡ s.entry (s.keysOf (f .row) (f .left) (f .done)) c (memory (now (rows .entry)) B T O U N) k) ⌝ }
+{
+    let a = decide::key_end(rows, c, f.row, f.done);
+    let Done::Fine(c1) = a else {
+        return Entry::No(decide::not_done(a));
+    };
+    Entry::On(frame(tasks::VALUES, f.row, f.left, f.done), c1)
+}
+
 // The entry in work of a task is finished: what the task has left.
 fn entry_done(rows: &mut [usize], c: Cursor, f: Frame) -> Entry
     ensures { λ x. ⌜ ((B T O U N : List ℕ) (k : s.Task → Cursor → Memory → s.State) → onEntry x (memory (now (rows .exit)) B T O U N) k
@@ -406,7 +411,7 @@ fn entry_done(rows: &mut [usize], c: Cursor, f: Frame) -> Entry
         return count_entry(rows, c, f, columns::COUNT, tasks::MEMBERS);
     }
     if f.task == tasks::KEYS {
-        return Entry::On(frame(tasks::VALUES, f.row, f.left, f.done), c);
+        return key_done(rows, c, f);
     }
     if f.task == tasks::VALUES {
         return count_entry(rows, c, f, columns::COUNT, tasks::KEYS);

@@ -144,6 +144,11 @@ module _ (R B T O U N s : List ℕ) (c : Cursor) where
   unfolding reads
   does-sealed-key i o e = looks (memory R B T O U N) c s o (d.sealedKey i N c) e (stays.stays-sealed-key c i N)
 
+  pub does-key-end : (row done : ℕ) (o : Out Unit Unit) → o ≡ d.keyEnd row done R c
+      → result o (memory R B T O U N) s ≡ reads (by (looking (λ m. d.keyEnd row done (m .rows)))) (memory R B T O U N) c s
+  unfolding reads
+  does-key-end row done o e = looks (memory R B T O U N) c s o (d.keyEnd row done R c) e (stays.stays-key-end c row done R)
+
   pub does-starred : (p : Span) (o : Out Unit Bool) → o ≡ d.starred p B c → result o (memory R B T O U N) s ≡ reads (by (looking (λ m. d.starred p (m .store)))) (memory R B T O U N) c s
   unfolding reads
   does-starred p o e = looks (memory R B T O U N) c s o (d.starred p B c) e (stays.stays-starred c p B)

@@ -9,7 +9,6 @@ use Rattle.rows.specs.declared.Key.{Key}
 use Rattle.rows.specs.declared.Trait.{Trait}
 use Rattle.wire.specs.declared.Date.{Date}
 use Rattle.wire.specs.declared.Date.the-variants.{Millis, Refused}
-use Rattle.wire.specs.Date.{dateOf}
 use Rattle.format.specs.Decide as d
 use Rattle.format.specs.Decide.{Out, stop, give}
 
@@ -68,6 +67,10 @@ module _ (c : Cursor) where
   pub stays-counted : (row col done : ℕ) (R : List ℕ) → Stays c (d.counted row col done R c)
   unfolding d.counted
   stays-counted row col done R = search stays depth 14
+
+  pub stays-key-end : (row done : ℕ) (R : List ℕ) → Stays c (d.keyEnd row done R c)
+  unfolding d.keyEnd
+  stays-key-end row done R = search stays depth 14
 
   pub stays-grown : (row : ℕ) (w : d.Width) (p : Span) (n : ℕ) (R : List ℕ) → Stays c (d.grown row w p n R c)
   unfolding d.grown

@@ -8,7 +8,7 @@ use Rattle.rows.specs.declared.Cursor.{Cursor}
 use Rattle.rows.specs.Memory.{Memory, loanFault, messageLimit, rowWidth, spanWidth, traitWidth}
 use Rattle.format.specs.declared.Lent.{Lent}
 use Rattle.format.specs.declared.Head.{Head}
-use Rattle.format.specs.Numbers.{lentOf, sameLent, countsFit, depthFits, modeFits, modeOf, framesOf, sound}
+use Rattle.format.specs.Numbers.{lentOf, sameLent, countsFit, depthFits, modeFits, pairsFit, modeOf, framesOf, sound}
 use Rattle.states.proofs.Frames.{length-frames}
 
 abbrev pub countsIn : Cursor → Lent → Bool
@@ -26,6 +26,7 @@ module _ (h : Head) (l : Lent) (t : Bool) where
   soundIn fit =
       sameLent l (h .lent) && eqb (loanFault (l .rows) (l .store) (l .strings) (l .objects) (l .traits) (l .names)) 0 && leb (h .cursor .at) messageLimit
       && depthFits (modeOf (h .work)) (h .depth) && fit && modeFits (h .cursor) (modeOf (h .work))
+      && pairsFit (h .cursor) (modeOf (h .work))
 
   pub sounds : (F : List ℕ) (m : Memory) → lentOf m ≡ l → t ≡ soundIn (countsFit (h .cursor) m)
       → t ≡ sound (h .lent) (modeOf (h .work)) (framesOf F (h .depth)) (h .cursor) m
@@ -34,4 +35,5 @@ module _ (h : Head) (l : Lent) (t : Bool) where
       rw (length-frames F (h .depth))
       (q
       ∙ ap (λ (l : Lent). sameLent l (h .lent) && eqb (loanFault (l .rows) (l .store) (l .strings) (l .objects) (l .traits) (l .names)) 0
-      && leb (h .cursor .at) messageLimit && depthFits (modeOf (h .work)) (h .depth) && countsFit (h .cursor) m && modeFits (h .cursor) (modeOf (h .work))) (sym e))
+      && leb (h .cursor .at) messageLimit && depthFits (modeOf (h .work)) (h .depth) && countsFit (h .cursor) m && modeFits (h .cursor) (modeOf (h .work))
+      && pairsFit (h .cursor) (modeOf (h .work))) (sym e))

@@ -4,3 +4,5 @@ pub mod Modes
 pub mod Works
 pub mod Depths
 pub mod Lengths
+pub mod Parts
+pub mod Told

@@ -5,21 +5,42 @@ use format::Lent;
 use format::Work;
 use format::modes;
 use format::purposes;
+use format::refusals;
+use format::statuses;
 use rows::Cursor;
 use rows::MESSAGE_LIMIT;
+use rows::OBJECTS_MOST;
 use rows::OPEN_LIMIT;
 use rows::ROW_WIDTH;
+use rows::ROWS_MOST;
 use rows::SPAN_WIDTH;
+use rows::STORE_MOST;
 use rows::TRAIT_WIDTH;
+use rows::loans;
+use wire::Date;
+use wire::Part;
+use wire::markers;
 ghost use mathlib.Core.Path.{_≡_};
 ghost use mathlib.Core.Bool.{true, false, _&&_};
 ghost use mathlib.Core.List.{List};
-ghost use Prim.Native.Nat.{ℕ, _+_};
-ghost use lib.Dec.{leb, ltb};
+ghost use Prim.Native.Nat.{ℕ, _+_, _^_};
+ghost use lib.Dec.{leb, ltb, eqb};
 ghost use Rattle.rows.specs.Memory.{Memory, openLimit, spanUsed};
 ghost use Rattle.format.specs.Codes.{modeMarker, modeWord, modeNumber, modeFlag, modeText, modeRaw};
-ghost use Rattle.format.specs.Numbers.{lentOf, framesOf, modeOf, withUse};
+ghost use Rattle.format.specs.Numbers.{lentOf, framesOf, modeOf, withUse, withWord};
 ghost use Rattle.format.specs.Numbers as n;
+ghost use Rattle.format.specs.Refusals as no;
+ghost use Rattle.states.specs.Ends.{hasEnded};
+ghost use Rattle.wire.specs.Date.{refusedDate};
+ghost use Rattle.wire.specs.U29.{wordMore, wordBits};
+ghost use Rattle.wire.specs.Big.{numberMore, numberBits};
+
+// The last marker; how many bytes there are; how many indices a reference can have.
+const LAST_MARKER: usize = markers::DICTIONARY as usize;
+
+const BYTES: usize = 0x100;
+
+const INDICES: usize = 0x1000_0000;
 
 // ---- the loans
 
@@ -81,7 +102,7 @@ fn place_fits(c: Cursor, row: usize, begin: usize, size: usize) -> bool
 
 // The span is used, and what is left of it lies in it.
 fn span_fits(c: Cursor, w: Work) -> bool
-    ensures { λ r. ⌜ r ≡ (spanUsed c (w .span) && ltb (w .left) (w .span .size)) ⌝ }
+    ensures { λ r. ⌜ r ≡ n.bodyFits c (w .span) (w .left) ⌝ }
 {
     if !wire::fits(c.store, w.span.begin, w.span.size) {
         return false;
@@ -91,7 +112,7 @@ fn span_fits(c: Cursor, w: Work) -> bool
 
 // The row is used, and the span with what is left of it.
 fn body_fits(c: Cursor, w: Work) -> bool
-    ensures { λ r. ⌜ r ≡ (ltb (w .row) (c .rows) && spanUsed c (w .span) && ltb (w .left) (w .span .size)) ⌝ }
+    ensures { λ r. ⌜ r ≡ (ltb (w .row) (c .rows) && n.bodyFits c (w .span) (w .left)) ⌝ }
 {
     if c.rows <= w.row {
         return false;
@@ -99,7 +120,17 @@ fn body_fits(c: Cursor, w: Work) -> bool
     span_fits(c, w)
 }
 
-// A string's row is used, and the class that a name belongs to.
+// A trait in the making: its row and its class are used, and its first name is at most the next.
+fn name_fits(c: Cursor, w: Work) -> bool
+    ensures { λ r. ⌜ r ≡ (ltb (w .row) (c .rows) && leb (w .kind .begin + w .kind .size) (c .store) && leb (w .kind .first) (c .names)) ⌝ }
+{
+    if !place_fits(c, w.row, w.kind.begin, w.kind.size) {
+        return false;
+    }
+    w.kind.first <= c.names
+}
+
+// A string's row is used, and what a name belongs to.
 fn use_fits(c: Cursor, w: Work) -> bool
     ensures { λ r. ⌜ r ≡ withUse false w (n.useFits c) ⌝ }
 {
@@ -110,24 +141,49 @@ fn use_fits(c: Cursor, w: Work) -> bool
         purposes::DYNAMIC_KEY => w.row < c.rows,
         purposes::CLASS => w.row < c.rows,
         purposes::EXTERNAL => true,
-        purposes::NAME => place_fits(c, w.row, w.kind.begin, w.kind.size),
+        purposes::NAME => name_fits(c, w),
         purposes::VECTOR_CLASS => w.row < c.rows,
         _ => false,
     }
 }
 
-// At a marker: the key's mark is one, and its span is used.
+// At a marker: the key's span is used, if there is a key.
 fn marker_fits(c: Cursor, w: Work) -> bool
     ensures { λ r. ⌜ (w .mode ≡ modeMarker → r ≡ n.modeFits c (modeOf w)) ⌝ }
 {
-    if 1 < w.purpose {
-        return false;
+    if w.purpose == 0 {
+        return true;
     }
     wire::fits(c.store, w.span.begin, w.span.size)
 }
 
-fn word_fits(c: Cursor, w: Work) -> bool
-    ensures { λ r. ⌜ (w .mode ≡ modeWord → r ≡ n.modeFits c (modeOf w)) ⌝ }
+// Numbers that a word has in the making: so many bytes may come after the next one, and those before it gave no more than they can.
+fn word_part_fits(left: usize, part: usize) -> bool
+    ensures { λ r. ⌜ r ≡ n.partFits wordMore wordBits left part ⌝ }
+{
+    let p = wire::u29_byte(left, part, 0);
+    match p {
+        Part::Astray => false,
+        Part::More(n) => true,
+        Part::Whole(n) => true,
+    }
+}
+
+// The same of eight bytes.
+fn number_part_fits(left: usize, part: usize) -> bool
+    ensures { λ r. ⌜ r ≡ n.partFits numberMore numberBits left part ⌝ }
+{
+    let p = wire::be64_byte(left, part, 0);
+    match p {
+        Part::Astray => false,
+        Part::More(n) => true,
+        Part::Whole(n) => true,
+    }
+}
+
+// A word's row is used.
+fn word_row_fits(c: Cursor, w: Work) -> bool
+    ensures { λ r. ⌜ r ≡ withWord false w (n.wordFits c) ⌝ }
 {
     if w.purpose == 0 {
         return false;
@@ -138,15 +194,28 @@ fn word_fits(c: Cursor, w: Work) -> bool
     use_fits(c, w)
 }
 
+fn word_fits(c: Cursor, w: Work) -> bool
+    ensures { λ r. ⌜ (w .mode ≡ modeWord → r ≡ n.modeFits c (modeOf w)) ⌝ }
+{
+    if !word_row_fits(c, w) {
+        return false;
+    }
+    word_part_fits(w.left, w.part)
+}
+
 fn number_fits(c: Cursor, w: Work) -> bool
     ensures { λ r. ⌜ (w .mode ≡ modeNumber → r ≡ n.modeFits c (modeOf w)) ⌝ }
 {
-    let purpose = w.purpose;
-    match purpose {
-        purposes::DOUBLE => w.row < c.rows,
-        purposes::DATE_BITS => w.row < c.rows,
-        _ => false,
+    if w.purpose < purposes::DOUBLE {
+        return false;
     }
+    if purposes::DATE_BITS < w.purpose {
+        return false;
+    }
+    if c.rows <= w.row {
+        return false;
+    }
+    number_part_fits(w.left, w.part)
 }
 
 // A raw vector's flag has its span beside it.
@@ -168,6 +237,9 @@ fn flag_fits(c: Cursor, w: Work) -> bool
 fn text_fits(c: Cursor, w: Work) -> bool
     ensures { λ r. ⌜ (w .mode ≡ modeText → r ≡ n.modeFits c (modeOf w)) ⌝ }
 {
+    if utf8::BROKEN < w.part {
+        return false;
+    }
     if w.purpose == purposes::XML {
         return body_fits(c, w);
     }
@@ -189,7 +261,7 @@ fn raw_fits(c: Cursor, w: Work) -> bool
     body_fits(c, w)
 }
 
-// The mode is one of ours, and what it works with is used.
+// The mode is one of ours, and what it holds lies in what is used.
 fn mode_fits(c: Cursor, w: Work) -> bool
     ensures { λ r. ⌜ r ≡ n.modeFits c (modeOf w) ⌝ }
 {
@@ -203,6 +275,25 @@ fn mode_fits(c: Cursor, w: Work) -> bool
         modes::RAW => raw_fits(c, w),
         _ => false,
     }
+}
+
+// Pairs done are below the used rows, since each has a row of its own.
+pub fn pairs_fit(c: Cursor, w: Work) -> bool
+    ensures { λ r. ⌜ r ≡ n.pairsFit c (modeOf w) ⌝ }
+{
+    if w.purpose < purposes::KEY {
+        return true;
+    }
+    if purposes::DYNAMIC_KEY < w.purpose {
+        return true;
+    }
+    if w.mode == modes::WORD {
+        return w.done < c.rows;
+    }
+    if w.mode == modes::TEXT {
+        return w.done < c.rows;
+    }
+    true
 }
 
 // ---- how many values are open
@@ -274,5 +365,116 @@ pub fn sound(h: Head, l: Lent) -> bool
     if !counts_fit(h.cursor, l) {
         return false;
     }
-    mode_fits(h.cursor, h.work)
+    if !mode_fits(h.cursor, h.work) {
+        return false;
+    }
+    pairs_fit(h.cursor, h.work)
+}
+
+// ---- a state that has ended
+
+// One of the loans of a reading.
+fn is_loan(loan: usize) -> bool
+    ensures { λ r. ⌜ r ≡ no.isLoan loan ⌝ }
+{
+    if loan < loans::ROWS {
+        return false;
+    }
+    loan <= loans::NAMES
+}
+
+// A byte that is no marker.
+fn unknown_marker(b: usize) -> bool
+    ensures { λ r. ⌜ r ≡ (ltb 0x11 b && ltb b (2 ^ 8)) ⌝ }
+{
+    if b <= LAST_MARKER {
+        return false;
+    }
+    b < BYTES
+}
+
+// Bits that no date has.
+fn refused_bits(bits: usize) -> bool
+    ensures { λ r. ⌜ r ≡ (ltb bits (2 ^ 64) && refusedDate bits) ⌝ }
+{
+    let d = wire::date_millis(bits);
+    match d {
+        Date::Refused => true,
+        Date::Millis(n) => false,
+    }
+}
+
+// What refusal `n`, which a byte decided, tells.
+fn tells(n: usize, told: usize) -> bool
+    ensures { λ r. ⌜ r ≡ no.tells n told ⌝ }
+{
+    match n {
+        refusals::BAD_MARKER => unknown_marker(told),
+        refusals::NO_ENTRY => told < INDICES,
+        refusals::OPEN_OBJECT => told < OBJECTS_MOST,
+        refusals::EXTERNALIZABLE => told == 0,
+        refusals::BAD_DATE => refused_bits(told),
+        refusals::BAD_TEXT => told == 0,
+        refusals::TOO_DEEP => told == 0,
+        refusals::NO_ROOM => is_loan(told),
+        _ => false,
+    }
+}
+
+// What is told is right, and so is the place.
+fn at_place(told: bool, place: usize, right: usize) -> bool
+    ensures { λ r. ⌜ r ≡ (told && eqb place right) ⌝ }
+{
+    if !told {
+        return false;
+    }
+    place == right
+}
+
+// Some reading refuses so.
+fn sayable(n: usize, told: usize, place: usize) -> bool
+    ensures { λ r. ⌜ r ≡ no.sayable n told place ⌝ }
+{
+    if n == refusals::UNEXPECTED_END {
+        return told == 0;
+    }
+    if n == refusals::BAD_LOAN {
+        return at_place(is_loan(told), place, 0);
+    }
+    if n == refusals::TOO_LONG {
+        return at_place(told == 0, place, MESSAGE_LIMIT);
+    }
+    if n == refusals::LOST {
+        return at_place(told == 0, place, 0);
+    }
+    if !tells(n, told) {
+        return false;
+    }
+    if place < 1 {
+        return false;
+    }
+    place <= MESSAGE_LIMIT
+}
+
+// A finished reading uses no more than can be lent.
+fn finishable(c: Cursor) -> bool
+    ensures { λ r. ⌜ r ≡ n.finishable c ⌝ }
+{
+    if ROWS_MOST < c.rows {
+        return false;
+    }
+    c.store <= STORE_MOST
+}
+
+// The state has ended as a reading can: finished, or refused.
+pub fn has_ended(h: Head) -> bool
+    ensures { λ r. ⌜ r ≡ hasEnded h ⌝ }
+{
+    if h.status == statuses::FINISHED {
+        return finishable(h.cursor);
+    }
+    if h.status == statuses::REFUSED {
+        return sayable(h.number, h.told, h.place);
+    }
+    false
 }

@@ -375,6 +375,20 @@ fn begun(
     }
 }
 
+// The key that a new row shows: with mark 0 it has none.
+fn shown(w: Work) -> Key
+    ensures { λ k. ⌜ k ≡ s.shown (workKey w) ⌝ }
+{
+    if w.purpose == 0 {
+        return rows::no_key();
+    }
+    Key {
+        mark: w.purpose,
+        begin: w.span.begin,
+        size: w.span.size,
+    }
+}
+
 // A marker.
 fn marker_byte(
     rows: &mut [usize],
@@ -388,12 +402,7 @@ fn marker_byte(
     requires { ⌜ depth < suc openMost ⌝ }
     ensures { λ x. ⌜ ((B T O U : List ℕ) → Steps x frames depth rows (kept B) (kept T) (kept O) (kept U) names (λ ts m. s.act (s.atMarker (workKey w)) b ts c m)) ⌝ }
 {
-    let key = Key {
-        mark: w.purpose,
-        begin: w.span.begin,
-        size: w.span.size,
-    };
-    let a = decide::marker(rows, c, key, OPEN_LIMIT - depth, b);
+    let a = decide::marker(rows, c, shown(w), OPEN_LIMIT - depth, b);
     let Begun::Row(row, c1) = a else {
         return Next::Refused(decide::no_row(a));
     };

@@ -6,6 +6,9 @@ ghost use Rattle.utf8.specs.Grammar.{validText};
 ghost use Rattle.utf8.specs.States.{stepOf, foldOf};
 ghost use Rattle.utf8.specs.Ladder.{startOf, withinOf};
 
+// The state after a byte that no text has there, the last of all.
+pub const BROKEN: usize = 8;
+
 // The first byte of a character.
 fn start(b: u8) -> usize
     ensures { λ r. ⌜ r ≡ startOf b ⌝ }
@@ -14,7 +17,7 @@ fn start(b: u8) -> usize
         return 0;
     }
     if b < 0xc2 {
-        return 8;
+        return BROKEN;
     }
     if b < 0xe0 {
         return 1;
@@ -37,7 +40,7 @@ fn start(b: u8) -> usize
     if b == 0xf4 {
         return 7;
     }
-    8
+    BROKEN
 }
 
 // A byte that has to lie from `lo` to `hi`.
@@ -45,15 +48,15 @@ fn within(b: u8, lo: u8, hi: u8, then: usize) -> usize
     ensures { λ r. ⌜ r ≡ withinOf b lo hi then ⌝ }
 {
     if b < lo {
-        return 8;
+        return BROKEN;
     }
     if hi < b {
-        return 8;
+        return BROKEN;
     }
     then
 }
 
-// The state after one byte. A number above 8 is as broken as 8.
+// The state after one byte. A number above the last state is as broken.
 pub fn step(k: usize, b: u8) -> usize
     ensures { λ r. ⌜ r ≡ stepOf k b ⌝ }
 {
@@ -66,7 +69,7 @@ pub fn step(k: usize, b: u8) -> usize
         5 => within(b, 0x80, 0x9f, 1),
         6 => within(b, 0x90, 0xbf, 2),
         7 => within(b, 0x80, 0x8f, 2),
-        _ => 8,
+        _ => BROKEN,
     }
 }
 

@@ -12,9 +12,10 @@ use Rattle.wire.specs.declared.Size.{Size}
 use Rattle.wire.specs.declared.Size.the-variants.{Old, New}
 use Rattle.wire.specs.declared.Shape.{Shape}
 use Rattle.wire.specs.declared.Shape.the-variants.{Object, Known, External, Inline}
+use Rattle.wire.specs.U29.{wordMore}
 use Rattle.wire.specs.Word.{sizeOf, shapeOf}
 use Rattle.format.specs.Decide.{Out, stop, give, fixed, weak, looking, onRows, closed, flagged, starred, Body, objects, dictionary, object, sized}
-use Rattle.format.specs.Reading.{Result, ok, bad, Reader, Values, bind, by, ret, byte, u29, text, plain, _>>=_, _>>_, entries, members, inlined, objectOf, newOf, marked}
+use Rattle.format.specs.Reading.{Result, ok, bad, Reader, Values, bind, by, ret, byte, u29, text, plain, _>>=_, _>>_, entries, couple, members, inlined, objectOf, newOf, marked}
 use Rattle.format.specs.Reading as r
 use Rattle.format.proofs.Alike.{flat}
 use Rattle.parts.proofs.Sized as sized·type
@@ -24,7 +25,7 @@ use Rattle.parts.proofs.Classed as classed·type
 use Rattle.parts.specs.declared.Classed.{Classed}
 use Rattle.parts.specs.declared.Classed.the-variants as classed·is
 use Rattle.scan.specs.Reads.{result, cleared, reads, flag}
-use Rattle.parts.specs.Heads.{Rest, nothing, rest, onRest, sizeRest, sizeHead, objectRest, objectHead, knownTrait, newTrait, inlineTrait, externalTrait, vectorHead, couple, sizedOf, classedOf, overOf}
+use Rattle.parts.specs.Heads.{Rest, nothing, rest, onRest, sizeRest, sizeHead, objectRest, objectHead, knownTrait, newTrait, inlineTrait, externalTrait, vectorHead, sizedOf, classedOf, overOf}
 use Rattle.scan.proofs.Then.{then, refused, returned}
 
 bind-same : {A B : Type 0} (x : Result A) (g h : A → Reader B) → ((a : A) (m : Memory) (c : Cursor) (bs : List ℕ) → g a m c bs ≡ h a m c bs) → bind x g ≡ bind x h
@@ -55,12 +56,12 @@ module _ (value : Values) (row : ℕ) where
   vector-split n m c s e = e ∙ ap cleared (on-vector n m c (drop (c .at) s))
 
   on-dictionary : (n : ℕ) (m : Memory) (c : Cursor) (bs : List ℕ)
-      → (flag weak row >> entries (λ done. couple value) row colCount n 0 >> by (onRows (closed row))) m c bs ≡ newOf value row dictionary n m c bs
+      → (flag weak row >> entries (couple value row) row colCount n 0 >> by (onRows (closed row))) m c bs ≡ newOf value row dictionary n m c bs
   unfolding newOf flag
   on-dictionary n m c bs = flat (bind (byte m c bs) _) _ _ ∙ flat (byte m c bs) _ _ ∙ bind-same (byte m c bs) _ _ (λ b m c bs. simp flat)
 
   pub dictionary-split : (n : ℕ) (m : Memory) (c : Cursor) (s : List ℕ) {x : Result Unit}
-      → x ≡ reads (flag weak row >> entries (λ done. couple value) row colCount n 0 >> by (onRows (closed row))) m c s → x ≡ reads (newOf value row dictionary n) m c s
+      → x ≡ reads (flag weak row >> entries (couple value row) row colCount n 0 >> by (onRows (closed row))) m c s → x ≡ reads (newOf value row dictionary n) m c s
   unfolding reads
   dictionary-split n m c s e = e ∙ ap cleared (on-dictionary n m c (drop (c .at) s))
 
@@ -72,7 +73,7 @@ module _ (value : Values) (row : ℕ) where
   pub sized-split : (body : Body) (m : Memory) (c : Cursor) (s : List ℕ) {x : Result Unit}
       → x ≡ reads (sizeHead row >>= onRest (newOf value row body)) m c s → x ≡ reads (marked value row (sized body)) m c s
   unfolding reads marked sizeHead
-  sized-split body m c s e = e ∙ ap cleared (flat (u29 3 0 m c (drop (c .at) s)) _ _ ∙ bind-same (u29 3 0 m c (drop (c .at) s)) _ _ (λ w. on-size body (sizeOf w)))
+  sized-split body m c s e = e ∙ ap cleared (flat (u29 wordMore 0 m c (drop (c .at) s)) _ _ ∙ bind-same (u29 wordMore 0 m c (drop (c .at) s)) _ _ (λ w. on-size body (sizeOf w)))
 
   on-trait : (t : Trait) (m : Memory) (c : Cursor) (bs : List ℕ) → (inlineTrait row t >>= onRest (members value row)) m c bs ≡ inlined value row t m c bs
   unfolding inlineTrait inlined
@@ -88,7 +89,7 @@ module _ (value : Values) (row : ℕ) where
   pub object-split : (m : Memory) (c : Cursor) (s : List ℕ) {x : Result Unit}
       → x ≡ reads (objectHead row >>= onRest (members value row)) m c s → x ≡ reads (marked value row object) m c s
   unfolding reads marked objectHead
-  object-split m c s e = e ∙ ap cleared (flat (u29 3 0 m c (drop (c .at) s)) _ _ ∙ bind-same (u29 3 0 m c (drop (c .at) s)) _ _ (λ w. on-shape (shapeOf w)))
+  object-split m c s e = e ∙ ap cleared (flat (u29 wordMore 0 m c (drop (c .at) s)) _ _ ∙ bind-same (u29 wordMore 0 m c (drop (c .at) s)) _ _ (λ w. on-shape (shapeOf w)))
 
 -- ---- nothing is left behind a beginning
 

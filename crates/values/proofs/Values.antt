@@ -1,8 +1,8 @@
 -- A value by its marker's byte, and an object's members by the names and the dynamic mark of its trait.
-use mathlib.Core.Path.{_≡_, refl, sym, _∙_, subst}
+use mathlib.Core.Path.{_≡_, refl, sym, ap, _∙_, subst}
 use mathlib.Core.Bool.{Bool, true, false, cond}
 use mathlib.Core.List.{List}
-use Prim.Native.Nat.{ℕ, zero, suc, _-_, _/_, _<_}
+use Prim.Native.Nat.{ℕ, zero, suc, _+_, _-_, _/_, _<_}
 use native.Mathlib.Numerals.{sub-one}
 use native.Mathlib.Omega.{arith}
 use lib.Dec.{ltb, leb}
@@ -10,10 +10,11 @@ use lib.ListN.{length}
 use borrow.Author.Tests.{leb-false}
 use Rattle.rows.specs.declared.Cursor.{Cursor}
 use Rattle.rows.specs.declared.Key.{Key}
-use Rattle.rows.specs.Memory.{Memory, messageLimit, colCount2, spanWidth, spanAt, spanUsed, keyOf}
+use Rattle.rows.specs.Memory.{Memory, colCount2, spanWidth, spanAt, spanUsed, keyOf, rowUsed, put}
 use Rattle.decide.specs.declared.Refusal.{Refusal}
-use Rattle.decide.specs.Outcomes.{stopped}
-use Rattle.format.specs.Decide.{Out, stop, give, lost, onRows, sealedKey, marker, leaf, kindOf}
+use Rattle.wire.specs.Put.{With1, with1}
+use Rattle.decide.specs.Outcomes.{leaving, stopped}
+use Rattle.format.specs.Decide.{Out, stop, give, lost, onRows, counted, sealedKey, marker, leaf, kindOf}
 use Rattle.format.specs.Reading.{Result, Values, by, byte, pairs, dynamics, marked}
 use Rattle.format.specs.Reading as r
 use Rattle.scan.specs.Reads.{result, cleared, reads}
@@ -33,7 +34,7 @@ unfolding dynamics
 dynamics-none value row n m c s e = rw e (returned tt m c s)
 
 pub dynamics-some : (value : Values) (row n : ℕ) (m : Memory) (c : Cursor) (s : List ℕ) {x : Result Unit} → (n ≡ 0 → ⊥)
-    → x ≡ reads (pairs value row colCount2 messageLimit 0) m c s → x ≡ reads (dynamics value row n) m c s
+    → x ≡ reads (pairs value row colCount2 0) m c s → x ≡ reads (dynamics value row n) m c s
 unfolding dynamics
 dynamics-some value row zero m c s e q = absurd (e refl)
 dynamics-some value row (suc n) m c s e q = q
@@ -55,6 +56,23 @@ below i N c = below-tests i (keyOf (spanAt N i)) c (ltb (length N / spanWidth) (
 -- a name that is there is among those used
 pub name-used : (i : ℕ) (N : List ℕ) (c c′ : Cursor) (k : Key) (o : Out Unit Key) → o ≡ sealedKey i N c → o ≡ give k tt c′ → i < c′ .names
 name-used i N c c′ k o e p = subst (Below i) (sym e ∙ p) (below i N c)
+
+abbrev Under : ℕ → With1 (Out Unit Unit) → Type 0
+Under i (with1 (stop n told place) R) = Unit
+Under i (with1 (give a x c) R) = i < c .rows
+
+under-tests : (i : ℕ) (R R′ : List ℕ) (c : Cursor) (x y : Bool) → (x ≡ false → i < c .rows) → Under i (leaving R (cond x lost (cond y (give tt R′ c) lost)))
+under-tests i R R′ c true y h = tt
+under-tests i R R′ c false true h = h refl
+under-tests i R R′ c false false h = tt
+
+under : (row col i : ℕ) (R : List ℕ) (c : Cursor) → Under i (leaving R (counted row col i R c))
+unfolding counted
+under row col i R c = under-tests i R (put R row col (i + 1)) c (leb (c .rows) i) (rowUsed R c row) (leb-false (c .rows) i)
+
+-- an entry that is counted comes after fewer than there are rows
+pub rows-above : (row col i : ℕ) (R R′ : List ℕ) (c c′ : Cursor) (o : Out Unit Unit) → with1 o R′ ≡ leaving R (counted row col i R c) → o ≡ give tt tt c′ → i < c′ .rows
+rows-above row col i R R′ c c′ o e p = subst (Under i) (sym e ∙ ap (λ o. with1 o R′) p) (under row col i R c)
 
 -- ---- values
 

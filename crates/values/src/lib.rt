@@ -12,18 +12,16 @@ use parts::Classed;
 use parts::Sized;
 use rows::Cursor;
 use rows::Key;
-use rows::MESSAGE_LIMIT;
 use rows::Trait;
 use rows::columns;
 use scan::Number;
 ghost use Rattle.scan.specs.Reads.{Reads};
-ghost use mathlib.Core.Path.{_≡_};
 ghost use Prim.Native.Nat.{_^_, _<_};
-ghost use Rattle.rows.specs.Memory.{noKey, colCount, colCount2, messageLimit};
-ghost use Rattle.decide.specs.Outcomes.{doneOf, kindIn, bodyIn};
+ghost use Rattle.rows.specs.Memory.{noKey, colCount};
+ghost use Rattle.decide.specs.Outcomes.{doneOf, bodyIn};
 ghost use Rattle.format.specs.Decide as d;
 ghost use Rattle.format.specs.Reading as r;
-ghost use Rattle.parts.specs.Heads.{couple, sealedMember};
+ghost use Rattle.parts.specs.Heads.{sealedMember};
 
 // ---- entries
 
@@ -86,7 +84,7 @@ fn couples(
     n: usize,
     left: usize,
 ) -> Done
-    ensures { λ x. ⌜ Reads (doneOf x) (now (message .entry)) c rows store strings objects traits names (r.entries (λ done. couple (r.value left)) row colCount n 0) ⌝ }
+    ensures { λ x. ⌜ Reads (doneOf x) (now (message .entry)) c rows store strings objects traits names (r.entries (r.couple (r.value left) row) row colCount n 0) ⌝ }
 {
     let mut cur = c;
     let mut i = 0;
@@ -106,6 +104,10 @@ fn couples(
         let Done::Fine(c1) = a else {
             return a;
         };
+        let k = decide::key_end(rows, c1, row, i);
+        let Done::Fine(c2) = k else {
+            return k;
+        };
         let b = value(
             message,
             rows,
@@ -114,18 +116,18 @@ fn couples(
             objects,
             traits,
             names,
-            c1,
+            c2,
             rows::no_key(),
             left,
         );
-        let Done::Fine(c2) = b else {
+        let Done::Fine(c3) = b else {
             return b;
         };
-        let e = decide::counted(rows, c2, row, columns::COUNT, i);
-        let Done::Fine(c3) = e else {
+        let e = decide::counted(rows, c3, row, columns::COUNT, i);
+        let Done::Fine(c4) = e else {
             return e;
         };
-        cur = c3;
+        cur = c4;
         i += 1;
     }
     Done::Fine(cur)
@@ -182,7 +184,7 @@ fn sealed(
     Done::Fine(cur)
 }
 
-// Pairs of a key and a value, up to the empty key.
+// Pairs of a key and a value, up to the empty key. Each key takes at least a byte.
 fn pairs(
     message: &[u8],
     rows: &mut [usize],
@@ -196,11 +198,11 @@ fn pairs(
     col: usize,
     left: usize,
 ) -> Done
-    ensures { λ x. ⌜ Reads (doneOf x) (now (message .entry)) c rows store strings objects traits names (r.pairs (r.value left) row col messageLimit 0) ⌝ }
+    ensures { λ x. ⌜ Reads (doneOf x) (now (message .entry)) c rows store strings objects traits names (r.pairs (r.value left) row col 0) ⌝ }
 {
     let mut cur = c;
     let mut i = 0;
-    while i < MESSAGE_LIMIT {
+    loop {
         let k = scan::text(message, store, strings, cur);
         let Text::Have(s, c1) = k else {
             return Done::Refused(decide::no_text(k));
@@ -230,7 +232,6 @@ fn pairs(
         cur = c3;
         i += 1;
     }
-    Done::Refused(decide::lost())
 }
 
 // ---- containers

@@ -24,9 +24,16 @@ unfoldable pub bytesOf : ℕ → ℕ → List ℕ
 bytesOf zero n = []
 bytesOf (suc k) n = (n / 2 ^ (8 * k) % 2 ^ 8) ∷ bytesOf k n
 
+-- how many bytes of a number of eight come after the first, and the bits of each
+abbrev pub numberMore : ℕ
+numberMore = 7
+
+abbrev pub numberBits : ℕ
+numberBits = 8
+
 -- one byte b of a number of eight: `left` more come after it, and those before it gave n; astray are numbers that no such number has
 unfoldable pub digitOf : ℕ → ℕ → ℕ → Part
 digitOf left n b =
-    cond (ltb 7 left) Astray
-    (cond (leb (2 ^ (8 * (7 - left))) n) Astray
+    cond (ltb numberMore left) Astray
+    (cond (leb (2 ^ (numberBits * (numberMore - left))) n) Astray
     (cond (eqb left 0) (Whole (n * 2 ^ 8 + b)) (More (n * 2 ^ 8 + b))))

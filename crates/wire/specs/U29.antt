@@ -9,11 +9,18 @@ use Rattle.wire.specs.declared.Part.the-variants.{More, Whole, Astray}
 use Rattle.wire.specs.declared.Read.{Read}
 use Rattle.wire.specs.declared.Read.the-variants.{Value, Short}
 
+-- how many bytes may come after the first, and the bits that each of those before the last gives
+abbrev pub wordMore : ℕ
+wordMore = 3
+
+abbrev pub wordBits : ℕ
+wordBits = 7
+
 -- one byte b of a U29: `left` more may come after it, and those before it gave n; astray are numbers that no U29 has
 unfoldable pub partOf : ℕ → ℕ → ℕ → Part
 partOf left n b =
-    cond (ltb 3 left) Astray
-    (cond (leb (2 ^ (7 * (3 - left))) n) Astray
+    cond (ltb wordMore left) Astray
+    (cond (leb (2 ^ (wordBits * (wordMore - left))) n) Astray
     (cond (eqb left 0) (Whole (n * 2 ^ 8 + b))
     (cond (ltb b (2 ^ 7)) (Whole (n * 2 ^ 7 + b)) (More (n * 2 ^ 7 + (b - 2 ^ 7))))))
 

@@ -78,8 +78,8 @@ module _ {R B : List ℕ} (fit : Fit R B) (j : ℕ) where
   few h =
       omega (
         arith,
-        walk-long R (col R j colEnd) (suc j) (children R j) (row h .closed),
-        row h .end,
+        walk-long R (col R j colEnd) (suc j) (children R j) (row h .formed .closed),
+        row h .formed .end,
         lent (memory R B [] [] [] []) (fit .lent) .rows,
       )
 

@@ -10,7 +10,7 @@ use Rattle.format.specs.Standard.{Tree}
 use Rattle.format.specs.Unfold.{rowsIn, col, home, treesAt, pairsAt, node, treeAt, unfolded}
 use Rattle.format.specs.RowTest.{children, tested, fine}
 use Rattle.format.specs.Writing.{Stream, emitTrees, emitPairs, emitDynamic, emitIn, emit}
-use Rattle.format.proofs.Tested.{Row, tested-rows, Walk, done, next, walk-start, walk-after, home-row, kind-is}
+use Rattle.format.proofs.Tested.{Formed, tested-rows, Walk, done, next, walk-start, walk-after, home-row, kind-is}
 use Rattle.format.proofs.Levels.{unfolded-node}
 use Rattle.writer.specs.Pieces.{objectHeadAt, vectorHeadAt}
 use Rattle.format.proofs.Columns.{column-is}
@@ -19,7 +19,7 @@ use Rattle.writer.proofs.Nodes.{array-is, object-is, vector-is, diction
 use Rattle.rows.specs.Kinds.{kindUndefined, kindNull, kindBoolean, kindInteger, kindDouble, kindString, kindXmlDocument, kindDate, kindXml}
 use Rattle.rows.specs.Kinds.{kindByteArray, kindIntVector, kindUintVector, kindDoubleVector, kindReference}
 
-module _ (R B : List ℕ) (rows : (i : ℕ) → i < rowsIn R → Row R B i) (F : Tree → Stream) (f g : ℕ → Tree)
+module _ (R B : List ℕ) (rows : (i : ℕ) → i < rowsIn R → Formed R B i) (F : Tree → Stream) (f g : ℕ → Tree)
     (agree : (k : ℕ) → k < rowsIn R → F (f k) ≡ F (g k)) where
   -- ---- the children of row p
 
@@ -130,6 +130,6 @@ pub emit-levels : (R B : List ℕ) → tested R B ≡ fine → (left i : ℕ) �
 unfolding emit treeAt
 emit-levels R B t zero i h = refl
 emit-levels R B t (suc left) i h =
-    let rows = tested-rows R B t .1 in
+    let rows : (j : ℕ) → j < rowsIn R → Formed R B j = (λ j l. tested-rows R B t .1 j l .formed) in
     ap (emitIn (emit left)) (unfolded-node R B t i h)
     ∙ node-same R B rows (emit left) (unfolded R B) (treeAt left R B) (emit-levels R B t left) (home R i) (home-row R B rows i h)

@@ -142,4 +142,4 @@ module _ (R B : List ℕ) (j : ℕ) (f : ℕ → Tree) (F : Tree → Stream) {k 
       kind-is k kinds.kindObjectVector l (λ h. absurd (p .no-vector (kinded h))) λ l.
       kind-is k kinds.kindDictionary l (λ h. absurd (p .no-dictionary (kinded h))) λ l.
       kind-is k kinds.kindReference l (λ h. rw (kinded h)) λ l.
-      absurd (omega (arith, row (p .fit) j (omega arith) .high))
+      absurd (omega (arith, row (p .fit) j (omega arith) .formed .high))

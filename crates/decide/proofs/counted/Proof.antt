@@ -1,14 +1,14 @@
 -- Made by proofs.py from answers/counted.txt: change that file, not this one.
--- answers f4d212e26ad4 proof 2cec16a2eadd
+-- answers 69691da08555 proof 621ce8d9b996
 use native.Mathlib.Omega.{arith}
 use mathlib.Core.Path.{sym, _∙_}
 use Prim.Native.Nat.{_+_, _*_}
 use denote.Ref.{now}
 use lib.ListN.{length}
-use borrow.Author.Tests.{not-true, not-false}
+use borrow.Author.Tests.{le-leb, lt-leb, not-true, not-false}
 use lib.Seq.{set-out}
 use Rattle.format.specs.Decide.{counted}
-use Rattle.decide.proofs.Rows.{used-row, limit-past, limit-ahead}
+use Rattle.decide.proofs.Rows.{used-row}
 use Rattle.decide.proofs.Refusals.{stops}
 use borrow.Author.Needs.{needs}
 use Rattle.decide.proofs.counted.Statement.{statement}
@@ -23,7 +23,7 @@ lost-requires c κs = search needs
 
 returns : tie.Need-returns
 unfolding counted
-returns c = sym (rw (limit-past _ (c .before .if1 .taken), stops Unit (c .lost .ensures)))
+returns c = sym (rw (le-leb _ _ (c .before .if1 .taken), stops Unit (c .lost .ensures)))
 
 row-used-requires : tie.Need-row-used-requires
 row-used-requires c κs = search needs
@@ -35,65 +35,68 @@ returns-2 : tie.Need-returns-2
 unfolding counted
 returns-2 c =
     sym (rw (
-      limit-ahead _ (c .before .before .before .if1 .left),
+      lt-leb _ _ (c .before .before .before .if1 .left),
       sym (c .before .before .row-used .ensures) ∙ not-true _ (c .before .if2 .taken),
-      stops Unit (c .lost2 .ensures),
+      stops
+          Unit (c .lost2 .ensures),
     ))
 
 mul-if3 : tie.Need-mul-if3
 mul-if3 c = omega (
   arith,
-  used-row (length (now (c .before .before .before .before .args .rows))) (c .before .before .before .before .args .c .rows)
-      (c .before .before .before .before .args .row) (c .before .row-used .ensures) (not-false (c .before .row-used .result) (c .if2 .left)),
+  used-row (length (now (c .before .before .before .before .before .args .rows)))
+      (c .before .before .before .before .before .args .c .rows) (c .before .before .before .before .before .args .row) (c .before .row-used .ensures)
+      (not-false (c .before .row-used .result) (c .if2 .left)),
 )
 
 sub-if3 : tie.Need-sub-if3
 sub-if3 c = omega (
   arith,
-  used-row (length (now (c .before .before .before .before .args .rows))) (c .before .before .before .before .args .c .rows)
-      (c .before .before .before .before .args .row) (c .before .row-used .ensures) (not-false (c .before .row-used .result) (c .if2 .left)),
+  used-row (length (now (c .before .before .before .before .before .args .rows)))
+      (c .before .before .before .before .before .args .c .rows) (c .before .before .before .before .before .args .row) (c .before .row-used .ensures)
+      (not-false (c .before .row-used .result) (c .if2 .left)),
 )
 
 returns-3 : tie.Need-returns-3
 unfolding counted
 returns-3 c =
     sym (rw (
-      limit-ahead _ (c .before .before .before .if1 .left),
+      lt-leb _ _ (c .before .before .before .if1 .left),
       sym (c .before .before .row-used .ensures) ∙ not-false _ (c .before .if2 .left),
-      set-out (now (c .before .before .before .before .before .args .rows)) (c .before .before .before .before .before .args .row * 12 +
-          c .before .before .before .before .before .args .col) (c .before .before .before .before .before .args .done + 1) (omega
+      set-out (now (c .before .before .before .before .before .before .args .rows)) (c .before .before .before .before .before .before .args .row * 12
+          + c .before .before .before .before .before .before .args .col) (c .before .before .before .before .before .before .args .done + 1) (omega
           (arith, c .if3 .taken)),
     ))
 
 add-rows : tie.Need-add-rows
 add-rows c = omega (
   arith,
-  used-row (length (now (c .before .before .before .before .before .args .rows)))
-      (c .before .before .before .before .before .args .c .rows) (c .before .before .before .before .before .args .row)
+  used-row (length (now (c .before .before .before .before .before .before .args .rows)))
+      (c .before .before .before .before .before .before .args .c .rows) (c .before .before .before .before .before .before .args .row)
       (c .before .before .row-used .ensures) (not-false (c .before .before .row-used .result) (c .before .if2 .left)),
 )
 
 mul-rows : tie.Need-mul-rows
 mul-rows c = omega (
   arith,
-  used-row (length (now (c .before .before .before .before .before .args .rows)))
-      (c .before .before .before .before .before .args .c .rows) (c .before .before .before .before .before .args .row)
+  used-row (length (now (c .before .before .before .before .before .before .args .rows)))
+      (c .before .before .before .before .before .before .args .c .rows) (c .before .before .before .before .before .before .args .row)
       (c .before .before .row-used .ensures) (not-false (c .before .before .row-used .result) (c .before .if2 .left)),
 )
 
 add-rows-2 : tie.Need-add-rows-2
 add-rows-2 c = omega (
   arith,
-  used-row (length (now (c .before .before .before .before .before .args .rows)))
-      (c .before .before .before .before .before .args .c .rows) (c .before .before .before .before .before .args .row)
+  used-row (length (now (c .before .before .before .before .before .before .args .rows)))
+      (c .before .before .before .before .before .before .args .c .rows) (c .before .before .before .before .before .before .args .row)
       (c .before .before .row-used .ensures) (not-false (c .before .before .row-used .result) (c .before .if2 .left)),
 )
 
 mul-rows-2 : tie.Need-mul-rows-2
 mul-rows-2 c = omega (
   arith,
-  used-row (length (now (c .before .before .before .before .before .args .rows)))
-      (c .before .before .before .before .before .args .c .rows) (c .before .before .before .before .before .args .row)
+  used-row (length (now (c .before .before .before .before .before .before .args .rows)))
+      (c .before .before .before .before .before .before .args .c .rows) (c .before .before .before .before .before .before .args .row)
       (c .before .before .row-used .ensures) (not-false (c .before .before .row-used .result) (c .before .if2 .left)),
 )
 
@@ -106,7 +109,7 @@ same-length c = search needs
 returns-4 : tie.Need-returns-4
 unfolding counted
 returns-4 c = sym (rw (
-  limit-ahead _ (c .before .before .before .if1 .left),
+  lt-leb _ _ (c .before .before .before .if1 .left),
   sym (c .before .before .row-used .ensures) ∙ not-false _
       (c .before .if2 .left),
 ))

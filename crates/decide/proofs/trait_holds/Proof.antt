@@ -1,7 +1,7 @@
 -- Made by proofs.py from answers/trait_holds.txt: change that file, not this one.
--- answers 27e3799e7aa3 proof 32afd800eeb3
+-- answers 485a5722159c proof 991b9e7ee948
 use mathlib.Core.Path.{sym, _∙_}
-use borrow.Author.Tests.{le-leb, lt-leb, not-true, not-false}
+use borrow.Author.Tests.{not-true, not-false}
 use Rattle.format.specs.Decide.{traitHolds}
 use borrow.Author.Needs.{needs}
 use Rattle.decide.proofs.trait_holds.Statement.{statement}
@@ -17,23 +17,14 @@ returns : tie.Need-returns
 unfolding traitHolds
 returns c = sym (rw (sym (c .before .fits2 .ensures) ∙ not-true _ (c .if1 .taken)))
 
-returns-2 : tie.Need-returns-2
-unfolding traitHolds
-returns-2 c = sym (rw (sym (c .before .before .before .fits2 .ensures) ∙ not-false _ (c .before .before .if1 .left), lt-leb _ _ (c .if2 .taken)))
-
 fits-requires-2 : tie.Need-fits-requires-2
 fits-requires-2 c κs = search needs
 
-returns-3 : tie.Need-returns-3
+returns-2 : tie.Need-returns-2
 unfolding traitHolds
-returns-3 c = sym (rw (
-  sym (c .before .before .before .before .fits2 .ensures) ∙ not-false _ (c .before .before .before .if1 .left),
-  le-leb _ _
-      (c .before .if2 .left),
-  c .fits3 .ensures,
-))
+returns-2 c = sym (rw (sym (c .before .before .fits2 .ensures) ∙ not-false _ (c .before .if1 .left), c .fits3 .ensures))
 
 pub trait-holds-spec : {M : Type 1} → statement M
 trait-holds-spec =
     tie.close
-    (tie.spec fits-requires returns returns-2 fits-requires-2 returns-3)
+    (tie.spec fits-requires returns fits-requires-2 returns-2)

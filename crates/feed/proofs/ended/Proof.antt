@@ -1,5 +1,5 @@
 -- Made by proofs.py from answers/ended.txt: change that file, not this one.
--- answers e561905e78b0 proof 5ca89e6c0da7
+-- answers e561905e78b0 proof 0121d321f8a5
 use mathlib.Core.Path.{sym, _∙_}
 use Rattle.feed.proofs.Calls.{end-stays, end-refuses}
 use borrow.Author.Needs.{needs}
@@ -9,9 +9,9 @@ use Rattle.feed.proofs.ended.Reads as reads
 use Rattle.feed.proofs.ended.Lts as lts
 use Rattle.feed.proofs.answered.Reads as answered-reads
 use Rattle.feed.proofs.end_refusal.Reads as end-refusal-reads
-use Rattle.pieces.proofs.has_ended.Reads as has-ended-reads
 use Rattle.pieces.proofs.head_after.Reads as head-after-reads
 use Rattle.rows.proofs.clear.Reads as clear-reads
+use Rattle.states.proofs.has_ended.Reads as has-ended-reads
 
 has-ended-requires : tie.Need-has-ended-requires
 has-ended-requires c κs = search needs

@@ -1,8 +1,9 @@
 -- Made by proofs.py from answers/int32_fits.txt: change that file, not this one.
--- answers f3bbb2f1aeaa proof d2174d1178bd
+-- answers aeddb155de0d proof 567a04543dc3
 use mathlib.Core.Path.{sym}
-use borrow.Author.Tests.{lt-ltb, le-ltb}
+use borrow.Author.Tests.{lt-ltb}
 use Rattle.format.specs.RowTest.{signedFits}
+use Rattle.judge.proofs.Counts.{signed-high}
 use Rattle.judge.proofs.int32_fits.Statement.{statement}
 use Rattle.judge.proofs.int32_fits.Tie as tie
 use Rattle.judge.proofs.int32_fits.Reads as reads
@@ -13,8 +14,7 @@ unfolding signedFits
 returns c = sym (rw (lt-ltb _ _ (c .if1 .taken)))
 
 returns-2 : tie.Need-returns-2
-unfolding signedFits
-returns-2 c = sym (rw (le-ltb _ _ (c .if1 .left)))
+returns-2 c = signed-high 31 _ (c .if1 .left) (c .before .fits .n .fits)
 
 pub int32-fits-spec : {M : Type 1} → statement M
 int32-fits-spec =

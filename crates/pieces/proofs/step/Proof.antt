@@ -1,5 +1,5 @@
 -- Made by proofs.py from answers/step.txt: change that file, not this one.
--- answers b55d36d16c6e proof a8bc9b3fbb06
+-- answers b55d36d16c6e proof ecf2ef93b6d3
 use mathlib.Core.Path.{sym, _∙_}
 use Rattle.pieces.proofs.Steps.{stays, goes-on}
 use borrow.Author.Needs.{needs}
@@ -7,10 +7,10 @@ use Rattle.pieces.proofs.step.Statement.{statement}
 use Rattle.pieces.proofs.step.Tie as tie
 use Rattle.pieces.proofs.step.Reads as reads
 use Rattle.pieces.proofs.step.Lts as lts
-use Rattle.pieces.proofs.has_ended.Reads as has-ended-reads
 use Rattle.pieces.proofs.head_after.Reads as head-after-reads
 use Rattle.pieces.proofs.next.Reads as next-reads
 use Rattle.pieces.proofs.settle.Reads as settle-reads
+use Rattle.states.proofs.has_ended.Reads as has-ended-reads
 
 has-ended-requires : tie.Need-has-ended-requires
 has-ended-requires c κs = search needs

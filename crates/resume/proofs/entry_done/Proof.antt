@@ -1,8 +1,8 @@
 -- Made by proofs.py from answers/entry_done.txt: change that file, not this one.
--- answers c13cd9e82a15 proof 787532d2a185
+-- answers 9b45d80fc34f proof 2f47adbb6708
 use mathlib.Core.Path.{_∙_}
 use Rattle.resume.proofs.Tasks as tasks
-use Rattle.resume.proofs.Tasks.{Counts, counts, to-values, strange-task, entry-strange}
+use Rattle.resume.proofs.Tasks.{Counts, counts, entry-keys, strange-task, entry-strange}
 use borrow.Author.Needs.{needs}
 use Rattle.resume.proofs.entry_done.Statement.{statement}
 use Rattle.resume.proofs.entry_done.Tie as tie
@@ -10,7 +10,7 @@ use Rattle.resume.proofs.entry_done.Reads as reads
 use Rattle.resume.proofs.entry_done.Lts as lts
 use Rattle.decide.proofs.lost.Reads as lost-reads
 use Rattle.resume.proofs.count_entry.Reads as count-entry-reads
-use Rattle.resume.proofs.frame.Reads as frame-reads
+use Rattle.resume.proofs.key_done.Reads as key-done-reads
 
 count-entry-requires : tie.Need-count-entry-requires
 count-entry-requires c κs = search needs
@@ -62,17 +62,20 @@ returns-5 : tie.Need-returns-5
 returns-5 c = λ B T O U N k. c .before .before .count-entry5 .ensures B T O U N k ∙ counts _ _ _ _ _ _ _ _ _ _ _ (rw
     (c .before .before .before .before .if5 .taken) tasks.members)
 
-frame-requires : tie.Need-frame-requires
-frame-requires c κs = search needs
+key-done-requires : tie.Need-key-done-requires
+key-done-requires c κs = search needs
+
+same-length-6 : tie.Need-same-length-6
+same-length-6 c = search needs
 
 returns-6 : tie.Need-returns-6
-returns-6 c = λ B T O U N k. to-values _ _ _ _ _ (c .before .if6 .taken) (c .frame .ensures)
+returns-6 c = λ B T O U N k. c .key-done .ensures B T O U N k ∙ entry-keys _ _ _ _ (c .before .before .if6 .taken)
 
 count-entry-requires-6 : tie.Need-count-entry-requires-6
 count-entry-requires-6 c κs = search needs
 
-same-length-6 : tie.Need-same-length-6
-same-length-6 c = search needs
+same-length-7 : tie.Need-same-length-7
+same-length-7 c = search needs
 
 returns-7 : tie.Need-returns-7
 returns-7 c = λ B T O U N k. c .before .before .count-entry6 .ensures B T O U N k ∙ counts _ _ _ _ _ _ _ _ _ _ _ (rw
@@ -95,5 +98,5 @@ pub entry-done-spec : {M : Type 1} → statement M
 entry-done-spec =
     tie.close
     (tie.spec count-entry-requires same-length returns count-entry-requires-2 same-length-2 returns-2 count-entry-requires-3 same-length-3 returns-3
-    count-entry-requires-4 same-length-4 returns-4 count-entry-requires-5 same-length-5 returns-5 frame-requires returns-6 count-entry-requires-6
-    same-length-6 returns-7 lost-requires returns-8)
+    count-entry-requires-4 same-length-4 returns-4 count-entry-requires-5 same-length-5 returns-5 key-done-requires same-length-6 returns-6
+    count-entry-requires-6 same-length-7 returns-7 lost-requires returns-8)

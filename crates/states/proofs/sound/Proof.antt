@@ -1,5 +1,5 @@
 -- Made by proofs.py from answers/sound.txt: change that file, not this one.
--- answers a3862b595db2 proof 6e2e1d6098cd
+-- answers 4a60b8a9a8a2 proof 0d9c01d3028c
 use mathlib.Core.Path.{sym, _∙_}
 use borrow.Author.Tests.{eq-eqb, ne-eqb, le-leb, lt-leb, not-true, not-false}
 use Rattle.rows.specs.Memory.{messageLimit}
@@ -9,11 +9,12 @@ use Rattle.states.proofs.sound.Statement.{statement}
 use Rattle.states.proofs.sound.Tie as tie
 use Rattle.states.proofs.sound.Reads as reads
 use Rattle.states.proofs.sound.Lts as lts
+use Rattle.rows.proofs.loan_fault.Reads as loan-fault-reads
 use Rattle.states.proofs.counts_fit.Reads as counts-fit-reads
 use Rattle.states.proofs.depth_fits.Reads as depth-fits-reads
 use Rattle.states.proofs.mode_fits.Reads as mode-fits-reads
+use Rattle.states.proofs.pairs_fit.Reads as pairs-fit-reads
 use Rattle.states.proofs.same_lent.Reads as same-lent-reads
-use Rattle.rows.proofs.loan_fault.Reads as loan-fault-reads
 
 same-lent-requires : tie.Need-same-lent-requires
 same-lent-requires c κs = search needs
@@ -95,25 +96,55 @@ returns-6 : tie.Need-returns-6
 unfolding messageLimit
 returns-6 c =
     let b5 = c .before .before .before .before .before in
-    let b7 = b5 .before .before in
-    let b8 = b7 .before in
+    let b6 = b5 .before in
+    let b8 = b6 .before .before in
     let b9 = b8 .before in
     let b10 = b9 .before in
     let b11 = b10 .before in
-    λ F m e. sounds (b11 .args .h) (b11 .args .l) _ F m e (sym (simp (
-      sym (b10 .same-lent .ensures) ∙ not-false _ (b9 .if1 .left),
-      eq-eqb _ _ (sym
-          (b8 .loan-fault .ensures) ∙ b7 .if2 .left),
-      le-leb _ _ (b5 .if3 .left),
-      sym (c .before .before .before .before .depth-fits .ensures) ∙ not-false
-          _ (c .before .before .before .if4 .left),
-      sym (c .before .before .counts-fit .ensures m e) ∙ not-false _ (c .before .if5 .left),
+    let b12 = b11 .before in
+    λ F m e. sounds (b12 .args .h) (b12 .args .l) _ F m e
+    (sym (simp (
+      sym (b11 .same-lent .ensures) ∙ not-false _ (b10 .if1 .left),
+      eq-eqb _ _ (sym (b9 .loan-fault .ensures) ∙ b8 .if2 .left),
+      le-leb _ _
+          (b6 .if3 .left),
+      sym (b5 .depth-fits .ensures) ∙ not-false _ (c .before .before .before .before .if4 .left),
       sym
-          (c .mode-fits .ensures),
+          (c .before .before .before .counts-fit .ensures m e) ∙ not-false _ (c .before .before .if5 .left),
+      sym (c .before .mode-fits .ensures) ∙
+          not-true _ (c .if6 .taken),
+    )))
+
+pairs-fit-requires : tie.Need-pairs-fit-requires
+pairs-fit-requires c κs = search needs
+
+returns-7 : tie.Need-returns-7
+unfolding messageLimit
+returns-7 c =
+    let b5 = c .before .before .before .before .before in
+    let b6 = b5 .before in
+    let b7 = b6 .before in
+    let b9 = b7 .before .before in
+    let b10 = b9 .before in
+    let b11 = b10 .before in
+    let b12 = b11 .before in
+    let b13 = b12 .before in
+    λ F m e. sounds (b13 .args .h) (b13 .args .l) _ F m e
+    (sym (simp (
+      sym (b12 .same-lent .ensures) ∙ not-false _ (b11 .if1 .left),
+      eq-eqb _ _ (sym (b10 .loan-fault .ensures) ∙ b9 .if2 .left),
+      le-leb _ _
+          (b7 .if3 .left),
+      sym (b6 .depth-fits .ensures) ∙ not-false _ (b5 .if4 .left),
+      sym (c .before .before .before .before .counts-fit .ensures m e) ∙
+          not-false _ (c .before .before .before .if5 .left),
+      sym (c .before .before .mode-fits .ensures) ∙ not-false _ (c .before .if6 .left),
+      sym
+          (c .pairs-fit .ensures),
     )))
 
 pub sound-spec : {M : Type 1} → statement M
 sound-spec =
     tie.close
     (tie.spec same-lent-requires returns loan-fault-requires returns-2 returns-3 depth-fits-requires returns-4 counts-fit-requires returns-5
-    mode-fits-requires returns-6)
+    mode-fits-requires returns-6 pairs-fit-requires returns-7)

@@ -1,30 +1,29 @@
 -- Made by proofs.py from answers/word_fits.txt: change that file, not this one.
--- answers f55e669348f5 proof 46200ab07fb0
-use Rattle.states.proofs.Works.{word-none, word-row, word-use}
+-- answers ce4e8899916b proof f3853b642068
+use borrow.Author.Tests.{not-true, not-false}
+use Rattle.states.proofs.Works.{word-unused, word-used}
 use borrow.Author.Needs.{needs}
 use Rattle.states.proofs.word_fits.Statement.{statement}
 use Rattle.states.proofs.word_fits.Tie as tie
 use Rattle.states.proofs.word_fits.Reads as reads
 use Rattle.states.proofs.word_fits.Lts as lts
-use Rattle.states.proofs.use_fits.Reads as use-fits-reads
+use Rattle.states.proofs.word_part_fits.Reads as word-part-fits-reads
+use Rattle.states.proofs.word_row_fits.Reads as word-row-fits-reads
+
+word-row-fits-requires : tie.Need-word-row-fits-requires
+word-row-fits-requires c κs = search needs
 
 returns : tie.Need-returns
-returns c = word-none (c .before .before .args .w) (c .before .before .args .c) (c .if1 .taken)
+returns c = word-unused (c .before .before .args .w) (c .before .before .args .c) _ (c .before .word-row-fits .ensures) (not-true _ (c .if1 .taken))
+
+word-part-fits-requires : tie.Need-word-part-fits-requires
+word-part-fits-requires c κs = search needs
 
 returns-2 : tie.Need-returns-2
-returns-2 c =
-    let b6 = c .before .before .before .before .before .before in
-    word-row (b6 .args .w) (b6 .args .c) (c .before .before .before .before .if1 .left) (c .before .before .if2 .taken)
-
-use-fits-requires : tie.Need-use-fits-requires
-use-fits-requires c κs = search needs
-
-returns-3 : tie.Need-returns-3
-returns-3 c =
-    let b5 = c .before .before .before .before .before in
-    word-use (b5 .args .w) (b5 .args .c) _ (c .use-fits .ensures) (c .before .if2 .left)
+returns-2 c = word-used (c .before .before .before .args .w) (c .before .before .before .args .c) _ _ (c .before .before .word-row-fits .ensures)
+    (not-false _ (c .before .if1 .left)) (c .word-part-fits .ensures)
 
 pub word-fits-spec : {M : Type 1} → statement M
 word-fits-spec =
     tie.close
-    (tie.spec returns returns-2 use-fits-requires returns-3)
+    (tie.spec word-row-fits-requires returns word-part-fits-requires returns-2)

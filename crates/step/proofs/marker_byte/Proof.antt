@@ -1,5 +1,5 @@
 -- Made by proofs.py from answers/marker_byte.txt: change that file, not this one.
--- answers 9d69bd8e6fc5 proof 7244aa9303d3
+-- answers 67115c08d18b proof e5374d9186c0
 use native.Mathlib.Omega.{arith}
 use mathlib.Core.Path.{refl, sym, ap, _∙_}
 use Rattle.rows.specs.Memory.{openLimit}
@@ -18,6 +18,10 @@ use Rattle.step.proofs.marker_byte.Lts as lts
 use Rattle.decide.proofs.marker.Reads as marker-reads
 use Rattle.decide.proofs.no_row.Reads as no-row-reads
 use Rattle.step.proofs.begun.Reads as begun-reads
+use Rattle.step.proofs.shown.Reads as shown-reads
+
+shown-requires : tie.Need-shown-requires
+shown-requires c κs = search needs
 
 sub-marker : tie.Need-sub-marker
 sub-marker c = search needs
@@ -41,10 +45,11 @@ returns : tie.Need-returns
 unfolding act openLimit
 returns c =
     let b5 = c .before .before .before .before .before in
-    let b9 = b5 .before .before .before .before in
-    λ B T O U. rw (length-frames (b9 .args .frames .now) (b9 .args .depth)) (refuses _ _ _ _ _ (c .no-row .ensures _ (c .before .enum-told .given .1))
-    (b5 .marker .kept .0, refl, refl, refl, refl, refl) ∙ ap (afterOf _) (sym (stop-marker _ _ _ _ _ _ _ _ _ _ _ _ (b5 .marker .ensures) _ _ (ap
-    begunOf (c .before .enum-told .given .1)))))
+    let b6 = b5 .before in
+    let b10 = b6 .before .before .before .before in
+    λ B T O U. rw (length-frames (b10 .args .frames .now) (b10 .args .depth), sym (b6 .shown .ensures))
+    (refuses _ _ _ _ _ (c .no-row .ensures _ (c .before .enum-told .given .1)) (b5 .marker .kept .0, refl, refl, refl, refl, refl)
+    ∙ ap (afterOf _) (sym (stop-marker _ _ _ _ _ _ _ _ _ _ _ _ (b5 .marker .ensures) _ _ (ap begunOf (c .before .enum-told .given .1)))))
 
 begun-requires : tie.Need-begun-requires
 begun-requires c κs = omega (
@@ -61,11 +66,14 @@ unfolding act openLimit
 returns-2 c =
     let b6 = c .before .before .before .before .before .before in
     let b10 = b6 .before .before .before .before in
-    let b14 = b10 .before .before .before .before in
-    λ B T O U. rw (length-frames (b14 .args .frames .now) (b14 .args .depth)) (c .before .before .begun .ensures B T O U ∙ ap (afterOf _) (sym
-    (gave-marker _ _ _ _ _ _ _ _ _ _ _ _ (b10 .marker .ensures) _ _ _ (ap begunOf (b6 .a .given .1)))))
+    let b11 = b10 .before in
+    let b15 = b11 .before .before .before .before in
+    λ B T O U. rw (length-frames (b15 .args .frames .now) (b15 .args .depth), sym (b11 .shown .ensures))
+    (c .before .before .begun .ensures B T O U ∙ ap (afterOf _) (sym (gave-marker _ _ _ _ _ _ _ _ _ _ _ _ (b10 .marker .ensures) _ _ _ (ap begunOf
+    (b6 .a .given .1)))))
 
 pub marker-byte-spec : {M : Type 1} → statement M
 marker-byte-spec =
     tie.close
-    (tie.spec sub-marker marker-requires enum-known-a enum-told no-row-requires same-length returns begun-requires same-length-2 returns-2)
+    (tie.spec shown-requires sub-marker marker-requires enum-known-a enum-told no-row-requires same-length returns begun-requires same-length-2
+    returns-2)

@@ -1,20 +1,21 @@
 -- Made by proofs.py from answers/+array+couples+dictionary+items+marked+new_value+object+object_members+pairs+sealed+sized_value+value+vector.txt: change that file, not this one.
--- answers a507be3a0d76 proof ebda66d377a0
+-- answers fd8f380878ca proof 862f2f857e8b
 use borrow.Author.Needs.{needs}
 use native.Mathlib.Omega.{arith}
 use mathlib.Core.Path.{_≡_, refl, sym, ap, _∙_}
 use Prim.Native.Nat.{_+_, _*_, _-_, ℕ, _<_}
+use lib.ListN.{length}
 use Rattle.rows.specs.Memory.{memory, noKey, colCount}
 use Rattle.decide.specs.Outcomes.{doneOf, begunOf, textOf, keyedOf, kindIn, bodyIn, bodyNo}
 use Rattle.format.specs.Decide as d
-use Rattle.format.specs.Reading.{by, value, members, newOf, marked}
+use Rattle.format.specs.Reading.{by, value, couple, members, newOf, marked}
 use Rattle.scan.specs.Reads.{numberIn}
-use Rattle.parts.specs.Heads.{sizedOf, classedOf, couple, sealedMember}
-use Rattle.scan.proofs.Does.{does-marker, does-closed, does-counted, does-sealed-key}
+use Rattle.parts.specs.Heads.{sizedOf, classedOf, sealedMember}
+use Rattle.scan.proofs.Does.{does-marker, does-closed, does-counted, does-key-end, does-sealed-key}
 use Rattle.scan.proofs.Then.{then, refused, passed, chosen}
-use Rattle.values.proofs.Loops.{Entries, Pairs, entries-start, entries-stop, entries-uncounted, entries-more, entries-end, pairs-start, pairs-stop, pairs-over, pairs-refused, pairs-uncounted, pairs-more, pairs-end}
+use Rattle.values.proofs.Loops.{Entries, Pairs, entries-start, entries-stop, entries-uncounted, entries-more, entries-end, pairs-start, pairs-stop, pairs-over, pairs-refused, pairs-uncounted, pairs-more, pairs-less}
 use Rattle.values.proofs.Splits.{vector-split, dictionary-split, sized-split, object-split, sized-over, classed-over, is-over}
-use Rattle.values.proofs.Values.{dynamics-none, dynamics-some, name-used, leaf-over, value-short, value-marker, value-deep, value-marked}
+use Rattle.values.proofs.Values.{dynamics-none, dynamics-some, name-used, rows-above, leaf-over, value-short, value-marker, value-deep, value-marked}
 use borrow.Fn.Kinds.{In}
 use borrow.Fn.PlainCycle.{Measures, is, falls, and}
 use Rattle.values.proofs.array.Reads as array
@@ -59,6 +60,7 @@ use Rattle.values.proofs.+array+couples+dictionary+items+marked+new_val
 use Rattle.decide.proofs.body_of.Reads as body-of-reads
 use Rattle.decide.proofs.closed.Reads as closed-reads
 use Rattle.decide.proofs.counted.Reads as counted-reads
+use Rattle.decide.proofs.key_end.Reads as key-end-reads
 use Rattle.decide.proofs.kind_of.Reads as kind-of-reads
 use Rattle.decide.proofs.lost.Reads as lost-reads
 use Rattle.decide.proofs.marker.Reads as marker-reads
@@ -66,27 +68,26 @@ use Rattle.decide.proofs.no_key.Reads as no-key-reads
 use Rattle.decide.proofs.no_row.Reads as no-row-reads
 use Rattle.decide.proofs.no_text.Reads as no-text-reads
 use Rattle.decide.proofs.sealed_key.Reads as sealed-key-reads
-use Rattle.scan.proofs.byte.Reads as byte-reads
 use Rattle.parts.proofs.bytes.Reads as bytes-reads
 use Rattle.parts.proofs.date.Reads as date-reads
 use Rattle.parts.proofs.double.Reads as double-reads
 use Rattle.parts.proofs.integer.Reads as integer-reads
-use Rattle.scan.proofs.no_number.Reads as no-number-reads
 use Rattle.parts.proofs.object_head.Reads as object-head-reads
 use Rattle.parts.proofs.object_over.Reads as object-over-reads
 use Rattle.parts.proofs.over.Reads as over-reads
 use Rattle.parts.proofs.raw.Reads as raw-reads
 use Rattle.parts.proofs.size_head.Reads as size-head-reads
 use Rattle.parts.proofs.string.Reads as string-reads
-use Rattle.scan.proofs.text.Reads as text-reads
 use Rattle.parts.proofs.vector_head.Reads as vector-head-reads
 use Rattle.parts.proofs.weak_flag.Reads as weak-flag-reads
 use Rattle.parts.proofs.xml.Reads as xml-reads
 use Rattle.rows.proofs.key_of.Reads as key-of-reads
 use Rattle.rows.proofs.no_key.Reads as no-key-reads′
+use Rattle.scan.proofs.byte.Reads as byte-reads
+use Rattle.scan.proofs.no_number.Reads as no-number-reads
+use Rattle.scan.proofs.text.Reads as text-reads
 use Rattle.values.proofs.+array+couples+dictionary+items+marked+new_value+object+object_members+pairs+sealed+sized_value+value+vector.{statement}
 use Rattle.values.proofs.+array+couples+dictionary+items+marked+new_value+object+object_members+pairs+sealed+sized_value+value+vector.Tie.{close}
-use Rattle.rows.specs.Memory.{messageMost}
 
 abbrev μ-array : Measures 7 array-kinds.ps ℕ
 μ-array κs a = a .1 .1 .1 .1 .1 .1 .1 .1 .1 .1 .0 * 6 + 2
@@ -399,8 +400,8 @@ array-returns-3 t c =
     (b19 .items .ensures)) (does-closed _ _ _ _ _ _ _ _ _ _ _ (c .before .before .closed .ensures))
 
 abbrev couples-Inv-loop : couples-lts.InvT-loop
-couples-Inv-loop message rows₀ store₀ strings₀ objects₀ traits₀ names₀ row n left cur₀ i₀ rows store strings objects traits names cur i = Entries (λ
-    done. couple (value left)) row colCount n message (memory rows₀ store₀ strings₀ objects₀ traits₀ names₀) cur₀ i
+couples-Inv-loop message rows₀ store₀ strings₀ objects₀ traits₀ names₀ row n left cur₀ i₀ rows store strings objects traits names cur i = Entries
+    (couple (value left) row) row colCount n message (memory rows₀ store₀ strings₀ objects₀ traits₀ names₀) cur₀ i
     (memory rows store strings objects traits names) cur
 
 abbrev couples-μ-loop : couples-lts.MeasureT-loop
@@ -408,7 +409,7 @@ couples-μ-loop message rows₀ store₀ strings₀ objects₀ traits₀ names�
 
 abbrev couples-claims : ℕ → couples-lts.Claims
 couples-claims t =
-    (no-key-reads′.Asked, no-key-reads′.Learnt, value-below t, value.Post, counted-reads.Asked, counted-reads.Learnt)
+    (no-key-reads′.Asked, no-key-reads′.Learnt, value-below t, value.Post, key-end-reads.Asked, key-end-reads.Learnt, counted-reads.Asked, counted-reads.Learnt)
 
 couples-loop-holds : (t : ℕ) → couples-lts.Need-loop-holds (couples-claims t) (couples-at t) couples.Post couples-Inv-loop couples-μ-loop
 couples-loop-holds t c = entries-start
@@ -468,6 +469,7 @@ couples-same-length-6 t c =
     b14 .value .kept .1 .1 .1 .1 .1 .1 .0 ∙ b23 .loop .inv .kept .names
 
 couples-returns : (t : ℕ) → couples-lts.Need-returns (couples-claims t) (couples-at t) couples.Post couples-Inv-loop couples-μ-loop
+unfolding couple
 couples-returns t c =
     let b14 = c .before .before .before .before .before .before .before .before .before .before .before .before .before .before in
     let b15 = b14 .before in
@@ -475,7 +477,78 @@ couples-returns t c =
     let b23 = b22 .before in
     let b31 = b23 .before .before .before .before .before .before .before .before in
     entries-stop (b23 .loop .inv) (b22 .loop-test .taken) _ _ _ (ap doneOf (c .enum-told .given .1)) (passed _ _ _ _ _ _ _ _ (ap doneOf
-    (c .enum-told .given .1)) (chosen (value (b31 .args .left)) _ _ _ _ (b15 .no-key .ensures) (b14 .value .ensures)))
+    (c .enum-told .given .1)) (passed _ _ _ _ _ _ _ _ (ap doneOf (c .enum-told .given .1)) (chosen (value (b31 .args .left)) _ _ _ _
+    (b15 .no-key .ensures) (b14 .value .ensures))))
+
+couples-key-end-requires : (t : ℕ) → couples-lts.Need-key-end-requires (couples-claims t) (couples-at t) couples.Post couples-Inv-loop couples-μ-loop
+couples-key-end-requires t c κs = search needs
+
+couples-enum-known-k : (t : ℕ) → couples-lts.Need-enum-known-k (couples-claims t) (couples-at t) couples.Post couples-Inv-loop couples-μ-loop
+couples-enum-known-k t c = c .match2 .keys1
+
+couples-enum-told-2 : (t : ℕ) → couples-lts.Need-enum-told-2 (couples-claims t) (couples-at t) couples.Post couples-Inv-loop couples-μ-loop
+couples-enum-told-2 t c = c .match2 .keys2
+
+couples-same-length-7 : (t : ℕ) → couples-lts.Need-same-length-7 (couples-claims t) (couples-at t) couples.Post couples-Inv-loop couples-μ-loop
+couples-same-length-7 t c =
+    let b19 =
+    c .before .before .before .before .before .before .before .before .before .before .before .before .before .before .before .before .before .before .before
+    in
+    let b28 = b19 .before .before .before .before .before .before .before .before .before in
+    b19 .value .kept .1 .0 ∙ b28 .loop .inv .kept .rows
+
+couples-same-length-8 : (t : ℕ) → couples-lts.Need-same-length-8 (couples-claims t) (couples-at t) couples.Post couples-Inv-loop couples-μ-loop
+couples-same-length-8 t c =
+    let b19 =
+    c .before .before .before .before .before .before .before .before .before .before .before .before .before .before .before .before .before .before .before
+    in
+    let b28 = b19 .before .before .before .before .before .before .before .before .before in
+    b19 .value .kept .1 .1 .0 ∙ b28 .loop .inv .kept .store
+
+couples-same-length-9 : (t : ℕ) → couples-lts.Need-same-length-9 (couples-claims t) (couples-at t) couples.Post couples-Inv-loop couples-μ-loop
+couples-same-length-9 t c =
+    let b19 =
+    c .before .before .before .before .before .before .before .before .before .before .before .before .before .before .before .before .before .before .before
+    in
+    let b28 = b19 .before .before .before .before .before .before .before .before .before in
+    b19 .value .kept .1 .1 .1 .0 ∙ b28 .loop .inv .kept .strings
+
+couples-same-length-10 : (t : ℕ) → couples-lts.Need-same-length-10 (couples-claims t) (couples-at t) couples.Post couples-Inv-loop couples-μ-loop
+couples-same-length-10 t c =
+    let b19 =
+    c .before .before .before .before .before .before .before .before .before .before .before .before .before .before .before .before .before .before .before
+    in
+    let b28 = b19 .before .before .before .before .before .before .before .before .before in
+    b19 .value .kept .1 .1 .1 .1 .0 ∙ b28 .loop .inv .kept .objects
+
+couples-same-length-11 : (t : ℕ) → couples-lts.Need-same-length-11 (couples-claims t) (couples-at t) couples.Post couples-Inv-loop couples-μ-loop
+couples-same-length-11 t c =
+    let b19 =
+    c .before .before .before .before .before .before .before .before .before .before .before .before .before .before .before .before .before .before .before
+    in
+    let b28 = b19 .before .before .before .before .before .before .before .before .before in
+    b19 .value .kept .1 .1 .1 .1 .1 .0 ∙ b28 .loop .inv .kept .traits
+
+couples-same-length-12 : (t : ℕ) → couples-lts.Need-same-length-12 (couples-claims t) (couples-at t) couples.Post couples-Inv-loop couples-μ-loop
+couples-same-length-12 t c =
+    let b19 =
+    c .before .before .before .before .before .before .before .before .before .before .before .before .before .before .before .before .before .before .before
+    in
+    let b28 = b19 .before .before .before .before .before .before .before .before .before in
+    b19 .value .kept .1 .1 .1 .1 .1 .1 .0 ∙ b28 .loop .inv .kept .names
+
+couples-returns-2 : (t : ℕ) → couples-lts.Need-returns-2 (couples-claims t) (couples-at t) couples.Post couples-Inv-loop couples-μ-loop
+unfolding couple
+couples-returns-2 t c =
+    let b5 = c .before .before .before .before .before in
+    let b19 = b5 .before .before .before .before .before .before .before .before .before .before .before .before .before .before in
+    let b20 = b19 .before in
+    let b27 = b20 .before .before .before .before .before .before .before in
+    let b28 = b27 .before in
+    let b36 = b28 .before .before .before .before .before .before .before .before in
+    entries-stop (b28 .loop .inv) (b27 .loop-test .taken) _ _ _ (ap doneOf (c .enum-told2 .given .1)) (passed _ _ _ _ _ _ _ _ (ap doneOf
+    (c .enum-told2 .given .1)) (then _ _ _ _ _ _ _ _ _ _ (ap doneOf (b5 .a .given .1)) (chosen (value (b36 .args .left)) _ _ _ _
+    (b20 .no-key .ensures) (b19 .value .ensures)) (does-key-end _ _ _ _ _ _ _ _ _ _ _ (c .before .before .key-end .ensures))))
 
 couples-no-key-requires-2 : (t : ℕ) → couples-lts.Need-no-key-requires-2 (couples-claims t) (couples-at t) couples.Post couples-Inv-loop couples-μ-loop
 couples-no-key-requires-2 t c κs = search needs
@@ -484,241 +557,253 @@ couples-value-requires-2 : (t : ℕ) → couples-lts.Need-value-requires-2 (coup
 couples-value-requires-2 t c κs = (
   omega (
     arith,
-    c .before .before .before .before .before .before .before .before .before .before .before .before .before .before .before .before .before .before .before .before .before .before .before .before .before .before .before .before .before .before .before .before .before .before .before .before .before .before .before .pre .0,
+    c .before .before .before .before .before .before .before .before .before .before .before .before .before .before .before .before .before .before .before .before .before .before .before .before .before .before .before .before .before .before .before .before .before .before .before .before .before .before .before .before .before .before .before .before .pre .0,
   ),
   tt,
 )
 
 couples-enum-known-b : (t : ℕ) → couples-lts.Need-enum-known-b (couples-claims t) (couples-at t) couples.Post couples-Inv-loop couples-μ-loop
-couples-enum-known-b t c = c .match2 .keys1
-
-couples-enum-told-2 : (t : ℕ) → couples-lts.Need-enum-told-2 (couples-claims t) (couples-at t) couples.Post couples-Inv-loop couples-μ-loop
-couples-enum-told-2 t c = c .match2 .keys2
-
-couples-same-length-7 : (t : ℕ) → couples-lts.Need-same-length-7 (couples-claims t) (couples-at t) couples.Post couples-Inv-loop couples-μ-loop
-couples-same-length-7 t c =
-    let b14 = c .before .before .before .before .before .before .before .before .before .before .before .before .before .before in
-    let b37 =
-    b14 .before .before .before .before .before .before .before .before .before .before .before .before .before .before .before .before .before .before .before .before .before .before .before
-    in
-    let b46 = b37 .before .before .before .before .before .before .before .before .before in
-    b14 .value2 .kept .1 .0 ∙ b37 .value .kept .1 .0 ∙ b46 .loop .inv .kept .rows
-
-couples-same-length-8 : (t : ℕ) → couples-lts.Need-same-length-8 (couples-claims t) (couples-at t) couples.Post couples-Inv-loop couples-μ-loop
-couples-same-length-8 t c =
-    let b14 = c .before .before .before .before .before .before .before .before .before .before .before .before .before .before in
-    let b37 =
-    b14 .before .before .before .before .before .before .before .before .before .before .before .before .before .before .before .before .before .before .before .before .before .before .before
-    in
-    let b46 = b37 .before .before .before .before .before .before .before .before .before in
-    b14 .value2 .kept .1 .1 .0 ∙ b37 .value .kept .1 .1 .0 ∙ b46 .loop .inv .kept .store
-
-couples-same-length-9 : (t : ℕ) → couples-lts.Need-same-length-9 (couples-claims t) (couples-at t) couples.Post couples-Inv-loop couples-μ-loop
-couples-same-length-9 t c =
-    let b14 = c .before .before .before .before .before .before .before .before .before .before .before .before .before .before in
-    let b37 =
-    b14 .before .before .before .before .before .before .before .before .before .before .before .before .before .before .before .before .before .before .before .before .before .before .before
-    in
-    let b46 = b37 .before .before .before .before .before .before .before .before .before in
-    b14 .value2 .kept .1 .1 .1 .0 ∙ b37 .value .kept .1 .1 .1 .0 ∙ b46 .loop .inv .kept .strings
-
-couples-same-length-10 : (t : ℕ) → couples-lts.Need-same-length-10 (couples-claims t) (couples-at t) couples.Post couples-Inv-loop couples-μ-loop
-couples-same-length-10 t c =
-    let b14 = c .before .before .before .before .before .before .before .before .before .before .before .before .before .before in
-    let b37 =
-    b14 .before .before .before .before .before .before .before .before .before .before .before .before .before .before .before .before .before .before .before .before .before .before .before
-    in
-    let b46 = b37 .before .before .before .before .before .before .before .before .before in
-    b14 .value2 .kept .1 .1 .1 .1 .0 ∙ b37 .value .kept .1 .1 .1 .1 .0 ∙ b46 .loop .inv .kept .objects
-
-couples-same-length-11 : (t : ℕ) → couples-lts.Need-same-length-11 (couples-claims t) (couples-at t) couples.Post couples-Inv-loop couples-μ-loop
-couples-same-length-11 t c =
-    let b14 = c .before .before .before .before .before .before .before .before .before .before .before .before .before .before in
-    let b37 =
-    b14 .before .before .before .before .before .before .before .before .before .before .before .before .before .before .before .before .before .before .before .before .before .before .before
-    in
-    let b46 = b37 .before .before .before .before .before .before .before .before .before in
-    b14 .value2 .kept .1 .1 .1 .1 .1 .0 ∙ b37 .value .kept .1 .1 .1 .1 .1 .0 ∙ b46 .loop .inv .kept .traits
-
-couples-same-length-12 : (t : ℕ) → couples-lts.Need-same-length-12 (couples-claims t) (couples-at t) couples.Post couples-Inv-loop couples-μ-loop
-couples-same-length-12 t c =
-    let b14 = c .before .before .before .before .before .before .before .before .before .before .before .before .before .before in
-    let b37 =
-    b14 .before .before .before .before .before .before .before .before .before .before .before .before .before .before .before .before .before .before .before .before .before .before .before
-    in
-    let b46 = b37 .before .before .before .before .before .before .before .before .before in
-    b14 .value2 .kept .1 .1 .1 .1 .1 .1 .0 ∙ b37 .value .kept .1 .1 .1 .1 .1 .1 .0 ∙ b46 .loop .inv .kept .names
-
-couples-returns-2 : (t : ℕ) → couples-lts.Need-returns-2 (couples-claims t) (couples-at t) couples.Post couples-Inv-loop couples-μ-loop
-couples-returns-2 t c =
-    let b14 = c .before .before .before .before .before .before .before .before .before .before .before .before .before .before in
-    let b15 = b14 .before in
-    let b23 = b15 .before .before .before .before .before .before .before .before in
-    let b37 = b23 .before .before .before .before .before .before .before .before .before .before .before .before .before .before in
-    let b38 = b37 .before in
-    let b45 = b38 .before .before .before .before .before .before .before in
-    let b46 = b45 .before in
-    let b54 = b46 .before .before .before .before .before .before .before .before in
-    entries-stop (b46 .loop .inv) (b45 .loop-test .taken) _ _ _ (ap doneOf (c .enum-told2 .given .1)) (then _ _ _ _ _ _ _ _ _ _ (ap doneOf
-    (b23 .a .given .1)) (chosen (value (b54 .args .left)) _ _ _ _ (b38 .no-key .ensures) (b37 .value .ensures)) (chosen (value (b54 .args .left)) _
-    _ _ _ (b15 .no-key2 .ensures) (b14 .value2 .ensures)))
-
-couples-counted-requires : (t : ℕ) → couples-lts.Need-counted-requires (couples-claims t) (couples-at t) couples.Post couples-Inv-loop couples-μ-loop
-couples-counted-requires t c κs = search needs
-
-couples-enum-known-e : (t : ℕ) → couples-lts.Need-enum-known-e (couples-claims t) (couples-at t) couples.Post couples-Inv-loop couples-μ-loop
-couples-enum-known-e t c = c .match3 .keys1
+couples-enum-known-b t c = c .match3 .keys1
 
 couples-enum-told-3 : (t : ℕ) → couples-lts.Need-enum-told-3 (couples-claims t) (couples-at t) couples.Post couples-Inv-loop couples-μ-loop
 couples-enum-told-3 t c = c .match3 .keys2
 
 couples-same-length-13 : (t : ℕ) → couples-lts.Need-same-length-13 (couples-claims t) (couples-at t) couples.Post couples-Inv-loop couples-μ-loop
 couples-same-length-13 t c =
-    let b21 =
-    c .before .before .before .before .before .before .before .before .before .before .before .before .before .before .before .before .before .before .before .before .before
+    let b14 = c .before .before .before .before .before .before .before .before .before .before .before .before .before .before in
+    let b42 =
+    b14 .before .before .before .before .before .before .before .before .before .before .before .before .before .before .before .before .before .before .before .before .before .before .before .before .before .before .before .before
     in
-    let b44 =
-    b21 .before .before .before .before .before .before .before .before .before .before .before .before .before .before .before .before .before .before .before .before .before .before .before
-    in
-    let b53 = b44 .before .before .before .before .before .before .before .before .before in
-    c .before .before .before .before .counted .kept .0 ∙ b21 .value2 .kept .1 .0 ∙ b44 .value .kept .1 .0 ∙ b53 .loop .inv .kept .rows
+    let b51 = b42 .before .before .before .before .before .before .before .before .before in
+    b14 .value2 .kept .1 .0 ∙ b42 .value .kept .1 .0 ∙ b51 .loop .inv .kept .rows
 
 couples-same-length-14 : (t : ℕ) → couples-lts.Need-same-length-14 (couples-claims t) (couples-at t) couples.Post couples-Inv-loop couples-μ-loop
 couples-same-length-14 t c =
-    let b21 =
-    c .before .before .before .before .before .before .before .before .before .before .before .before .before .before .before .before .before .before .before .before .before
+    let b14 = c .before .before .before .before .before .before .before .before .before .before .before .before .before .before in
+    let b42 =
+    b14 .before .before .before .before .before .before .before .before .before .before .before .before .before .before .before .before .before .before .before .before .before .before .before .before .before .before .before .before
     in
-    let b44 =
-    b21 .before .before .before .before .before .before .before .before .before .before .before .before .before .before .before .before .before .before .before .before .before .before .before
-    in
-    let b53 = b44 .before .before .before .before .before .before .before .before .before in
-    b21 .value2 .kept .1 .1 .0 ∙ b44 .value .kept .1 .1 .0 ∙ b53 .loop .inv .kept .store
+    let b51 = b42 .before .before .before .before .before .before .before .before .before in
+    b14 .value2 .kept .1 .1 .0 ∙ b42 .value .kept .1 .1 .0 ∙ b51 .loop .inv .kept .store
 
 couples-same-length-15 : (t : ℕ) → couples-lts.Need-same-length-15 (couples-claims t) (couples-at t) couples.Post couples-Inv-loop couples-μ-loop
 couples-same-length-15 t c =
-    let b21 =
-    c .before .before .before .before .before .before .before .before .before .before .before .before .before .before .before .before .before .before .before .before .before
+    let b14 = c .before .before .before .before .before .before .before .before .before .before .before .before .before .before in
+    let b42 =
+    b14 .before .before .before .before .before .before .before .before .before .before .before .before .before .before .before .before .before .before .before .before .before .before .before .before .before .before .before .before
     in
-    let b44 =
-    b21 .before .before .before .before .before .before .before .before .before .before .before .before .before .before .before .before .before .before .before .before .before .before .before
-    in
-    let b53 = b44 .before .before .before .before .before .before .before .before .before in
-    b21 .value2 .kept .1 .1 .1 .0 ∙ b44 .value .kept .1 .1 .1 .0 ∙ b53 .loop .inv .kept .strings
+    let b51 = b42 .before .before .before .before .before .before .before .before .before in
+    b14 .value2 .kept .1 .1 .1 .0 ∙ b42 .value .kept .1 .1 .1 .0 ∙ b51 .loop .inv .kept .strings
 
 couples-same-length-16 : (t : ℕ) → couples-lts.Need-same-length-16 (couples-claims t) (couples-at t) couples.Post couples-Inv-loop couples-μ-loop
 couples-same-length-16 t c =
-    let b21 =
-    c .before .before .before .before .before .before .before .before .before .before .before .before .before .before .before .before .before .before .before .before .before
+    let b14 = c .before .before .before .before .before .before .before .before .before .before .before .before .before .before in
+    let b42 =
+    b14 .before .before .before .before .before .before .before .before .before .before .before .before .before .before .before .before .before .before .before .before .before .before .before .before .before .before .before .before
     in
-    let b44 =
-    b21 .before .before .before .before .before .before .before .before .before .before .before .before .before .before .before .before .before .before .before .before .before .before .before
-    in
-    let b53 = b44 .before .before .before .before .before .before .before .before .before in
-    b21 .value2 .kept .1 .1 .1 .1 .0 ∙ b44 .value .kept .1 .1 .1 .1 .0 ∙ b53 .loop .inv .kept .objects
+    let b51 = b42 .before .before .before .before .before .before .before .before .before in
+    b14 .value2 .kept .1 .1 .1 .1 .0 ∙ b42 .value .kept .1 .1 .1 .1 .0 ∙ b51 .loop .inv .kept .objects
 
 couples-same-length-17 : (t : ℕ) → couples-lts.Need-same-length-17 (couples-claims t) (couples-at t) couples.Post couples-Inv-loop couples-μ-loop
 couples-same-length-17 t c =
-    let b21 =
-    c .before .before .before .before .before .before .before .before .before .before .before .before .before .before .before .before .before .before .before .before .before
+    let b14 = c .before .before .before .before .before .before .before .before .before .before .before .before .before .before in
+    let b42 =
+    b14 .before .before .before .before .before .before .before .before .before .before .before .before .before .before .before .before .before .before .before .before .before .before .before .before .before .before .before .before
     in
-    let b44 =
-    b21 .before .before .before .before .before .before .before .before .before .before .before .before .before .before .before .before .before .before .before .before .before .before .before
-    in
-    let b53 = b44 .before .before .before .before .before .before .before .before .before in
-    b21 .value2 .kept .1 .1 .1 .1 .1 .0 ∙ b44 .value .kept .1 .1 .1 .1 .1 .0 ∙ b53 .loop .inv .kept .traits
+    let b51 = b42 .before .before .before .before .before .before .before .before .before in
+    b14 .value2 .kept .1 .1 .1 .1 .1 .0 ∙ b42 .value .kept .1 .1 .1 .1 .1 .0 ∙ b51 .loop .inv .kept .traits
 
 couples-same-length-18 : (t : ℕ) → couples-lts.Need-same-length-18 (couples-claims t) (couples-at t) couples.Post couples-Inv-loop couples-μ-loop
 couples-same-length-18 t c =
+    let b14 = c .before .before .before .before .before .before .before .before .before .before .before .before .before .before in
+    let b42 =
+    b14 .before .before .before .before .before .before .before .before .before .before .before .before .before .before .before .before .before .before .before .before .before .before .before .before .before .before .before .before
+    in
+    let b51 = b42 .before .before .before .before .before .before .before .before .before in
+    b14 .value2 .kept .1 .1 .1 .1 .1 .1 .0 ∙ b42 .value .kept .1 .1 .1 .1 .1 .1 .0 ∙ b51 .loop .inv .kept .names
+
+couples-returns-3 : (t : ℕ) → couples-lts.Need-returns-3 (couples-claims t) (couples-at t) couples.Post couples-Inv-loop couples-μ-loop
+unfolding couple
+couples-returns-3 t c =
+    let b14 = c .before .before .before .before .before .before .before .before .before .before .before .before .before .before in
+    let b15 = b14 .before in
+    let b23 = b15 .before .before .before .before .before .before .before .before in
+    let b25 = b23 .before .before in
+    let b28 = b25 .before .before .before in
+    let b42 = b28 .before .before .before .before .before .before .before .before .before .before .before .before .before .before in
+    let b43 = b42 .before in
+    let b50 = b43 .before .before .before .before .before .before .before in
+    let b51 = b50 .before in
+    let b59 = b51 .before .before .before .before .before .before .before .before in
+    entries-stop (b51 .loop .inv) (b50 .loop-test .taken) _ _ _ (ap doneOf (c .enum-told3 .given .1)) (then _ _ _ _ _ _ _ _ _ _ (ap doneOf
+    (b23 .k .given .1)) (then _ _ _ _ _ _ _ _ _ _ (ap doneOf (b28 .a .given .1)) (chosen (value (b59 .args .left)) _ _ _ _ (b43 .no-key .ensures)
+    (b42 .value .ensures)) (does-key-end _ _ _ _ _ _ _ _ _ _ _ (b25 .key-end .ensures))) (chosen (value (b59 .args .left)) _ _ _ _
+    (b15 .no-key2 .ensures) (b14 .value2 .ensures)))
+
+couples-counted-requires : (t : ℕ) → couples-lts.Need-counted-requires (couples-claims t) (couples-at t) couples.Post couples-Inv-loop couples-μ-loop
+couples-counted-requires t c κs = search needs
+
+couples-enum-known-e : (t : ℕ) → couples-lts.Need-enum-known-e (couples-claims t) (couples-at t) couples.Post couples-Inv-loop couples-μ-loop
+couples-enum-known-e t c = c .match4 .keys1
+
+couples-enum-told-4 : (t : ℕ) → couples-lts.Need-enum-told-4 (couples-claims t) (couples-at t) couples.Post couples-Inv-loop couples-μ-loop
+couples-enum-told-4 t c = c .match4 .keys2
+
+couples-same-length-19 : (t : ℕ) → couples-lts.Need-same-length-19 (couples-claims t) (couples-at t) couples.Post couples-Inv-loop couples-μ-loop
+couples-same-length-19 t c =
     let b21 =
     c .before .before .before .before .before .before .before .before .before .before .before .before .before .before .before .before .before .before .before .before .before
     in
-    let b44 =
-    b21 .before .before .before .before .before .before .before .before .before .before .before .before .before .before .before .before .before .before .before .before .before .before .before
+    let b49 =
+    b21 .before .before .before .before .before .before .before .before .before .before .before .before .before .before .before .before .before .before .before .before .before .before .before .before .before .before .before .before
     in
-    let b53 = b44 .before .before .before .before .before .before .before .before .before in
-    b21 .value2 .kept .1 .1 .1 .1 .1 .1 .0 ∙ b44 .value .kept .1 .1 .1 .1 .1 .1 .0 ∙ b53 .loop .inv .kept .names
+    let b58 = b49 .before .before .before .before .before .before .before .before .before in
+    c .before .before .before .before .counted .kept .0 ∙ b21 .value2 .kept .1 .0 ∙ b49 .value .kept .1 .0 ∙ b58 .loop .inv .kept .rows
 
-couples-returns-3 : (t : ℕ) → couples-lts.Need-returns-3 (couples-claims t) (couples-at t) couples.Post couples-Inv-loop couples-μ-loop
-couples-returns-3 t c =
+couples-same-length-20 : (t : ℕ) → couples-lts.Need-same-length-20 (couples-claims t) (couples-at t) couples.Post couples-Inv-loop couples-μ-loop
+couples-same-length-20 t c =
+    let b21 =
+    c .before .before .before .before .before .before .before .before .before .before .before .before .before .before .before .before .before .before .before .before .before
+    in
+    let b49 =
+    b21 .before .before .before .before .before .before .before .before .before .before .before .before .before .before .before .before .before .before .before .before .before .before .before .before .before .before .before .before
+    in
+    let b58 = b49 .before .before .before .before .before .before .before .before .before in
+    b21 .value2 .kept .1 .1 .0 ∙ b49 .value .kept .1 .1 .0 ∙ b58 .loop .inv .kept .store
+
+couples-same-length-21 : (t : ℕ) → couples-lts.Need-same-length-21 (couples-claims t) (couples-at t) couples.Post couples-Inv-loop couples-μ-loop
+couples-same-length-21 t c =
+    let b21 =
+    c .before .before .before .before .before .before .before .before .before .before .before .before .before .before .before .before .before .before .before .before .before
+    in
+    let b49 =
+    b21 .before .before .before .before .before .before .before .before .before .before .before .before .before .before .before .before .before .before .before .before .before .before .before .before .before .before .before .before
+    in
+    let b58 = b49 .before .before .before .before .before .before .before .before .before in
+    b21 .value2 .kept .1 .1 .1 .0 ∙ b49 .value .kept .1 .1 .1 .0 ∙ b58 .loop .inv .kept .strings
+
+couples-same-length-22 : (t : ℕ) → couples-lts.Need-same-length-22 (couples-claims t) (couples-at t) couples.Post couples-Inv-loop couples-μ-loop
+couples-same-length-22 t c =
+    let b21 =
+    c .before .before .before .before .before .before .before .before .before .before .before .before .before .before .before .before .before .before .before .before .before
+    in
+    let b49 =
+    b21 .before .before .before .before .before .before .before .before .before .before .before .before .before .before .before .before .before .before .before .before .before .before .before .before .before .before .before .before
+    in
+    let b58 = b49 .before .before .before .before .before .before .before .before .before in
+    b21 .value2 .kept .1 .1 .1 .1 .0 ∙ b49 .value .kept .1 .1 .1 .1 .0 ∙ b58 .loop .inv .kept .objects
+
+couples-same-length-23 : (t : ℕ) → couples-lts.Need-same-length-23 (couples-claims t) (couples-at t) couples.Post couples-Inv-loop couples-μ-loop
+couples-same-length-23 t c =
+    let b21 =
+    c .before .before .before .before .before .before .before .before .before .before .before .before .before .before .before .before .before .before .before .before .before
+    in
+    let b49 =
+    b21 .before .before .before .before .before .before .before .before .before .before .before .before .before .before .before .before .before .before .before .before .before .before .before .before .before .before .before .before
+    in
+    let b58 = b49 .before .before .before .before .before .before .before .before .before in
+    b21 .value2 .kept .1 .1 .1 .1 .1 .0 ∙ b49 .value .kept .1 .1 .1 .1 .1 .0 ∙ b58 .loop .inv .kept .traits
+
+couples-same-length-24 : (t : ℕ) → couples-lts.Need-same-length-24 (couples-claims t) (couples-at t) couples.Post couples-Inv-loop couples-μ-loop
+couples-same-length-24 t c =
+    let b21 =
+    c .before .before .before .before .before .before .before .before .before .before .before .before .before .before .before .before .before .before .before .before .before
+    in
+    let b49 =
+    b21 .before .before .before .before .before .before .before .before .before .before .before .before .before .before .before .before .before .before .before .before .before .before .before .before .before .before .before .before
+    in
+    let b58 = b49 .before .before .before .before .before .before .before .before .before in
+    b21 .value2 .kept .1 .1 .1 .1 .1 .1 .0 ∙ b49 .value .kept .1 .1 .1 .1 .1 .1 .0 ∙ b58 .loop .inv .kept .names
+
+couples-returns-4 : (t : ℕ) → couples-lts.Need-returns-4 (couples-claims t) (couples-at t) couples.Post couples-Inv-loop couples-μ-loop
+unfolding couple
+couples-returns-4 t c =
     let b7 = c .before .before .before .before .before .before .before in
     let b21 = b7 .before .before .before .before .before .before .before .before .before .before .before .before .before .before in
     let b22 = b21 .before in
     let b30 = b22 .before .before .before .before .before .before .before .before in
-    let b44 = b30 .before .before .before .before .before .before .before .before .before .before .before .before .before .before in
-    let b45 = b44 .before in
-    let b52 = b45 .before .before .before .before .before .before .before in
-    let b53 = b52 .before in
-    let b61 = b53 .before .before .before .before .before .before .before .before in
-    entries-uncounted (b53 .loop .inv) (b52 .loop-test .taken) _ _ _ _ _ (ap doneOf (b7 .b .given .1)) (then _ _ _ _ _ _ _ _ _ _ (ap doneOf
-    (b30 .a .given .1)) (chosen (value (b61 .args .left)) _ _ _ _ (b45 .no-key .ensures) (b44 .value .ensures)) (chosen (value (b61 .args .left)) _
-    _ _ _ (b22 .no-key2 .ensures) (b21 .value2 .ensures))) (does-counted _ _ _ _ _ _ _ _ _ _ _ _ _
-    (c .before .before .before .before .counted .ensures)) _ (ap doneOf (c .enum-told3 .given .1))
+    let b32 = b30 .before .before in
+    let b35 = b32 .before .before .before in
+    let b49 = b35 .before .before .before .before .before .before .before .before .before .before .before .before .before .before in
+    let b50 = b49 .before in
+    let b57 = b50 .before .before .before .before .before .before .before in
+    let b58 = b57 .before in
+    let b66 = b58 .before .before .before .before .before .before .before .before in
+    entries-uncounted (b58 .loop .inv) (b57 .loop-test .taken) _ _ _ _ _ (ap doneOf (b7 .b .given .1)) (then _ _ _ _ _ _ _ _ _ _ (ap doneOf
+    (b30 .k .given .1)) (then _ _ _ _ _ _ _ _ _ _ (ap doneOf (b35 .a .given .1)) (chosen (value (b66 .args .left)) _ _ _ _ (b50 .no-key .ensures)
+    (b49 .value .ensures)) (does-key-end _ _ _ _ _ _ _ _ _ _ _ (b32 .key-end .ensures))) (chosen (value (b66 .args .left)) _ _ _ _
+    (b22 .no-key2 .ensures) (b21 .value2 .ensures))) (does-counted _ _ _ _ _ _ _ _ _ _ _ _ _ (c .before .before .before .before .counted .ensures))
+    _ (ap doneOf (c .enum-told4 .given .1))
 
 couples-add-i : (t : ℕ) → couples-lts.Need-add-i (couples-claims t) (couples-at t) couples.Post couples-Inv-loop couples-μ-loop
 couples-add-i t c = omega (
   arith,
-  c .before .before .before .before .before .before .before .before .before .before .before .before .before .before .before .before .before .before .before .before .before .before .before .before .before .before .before .before .before .before .before .before .before .before .before .before .before .before .before .before .before .before .before .before .before .before .before .before .before .before .before .before .before .loop-test .taken,
-  c .before .before .before .before .before .before .before .before .before .before .before .before .before .before .before .before .before .before .before .before .before .before .before .before .before .before .before .before .before .before .before .before .before .before .before .before .before .before .before .before .before .before .before .before .before .before .before .before .before .before .before .before .before .before .before .before .before .before .before .before .before .before .fits .n,
+  c .before .before .before .before .before .before .before .before .before .before .before .before .before .before .before .before .before .before .before .before .before .before .before .before .before .before .before .before .before .before .before .before .before .before .before .before .before .before .before .before .before .before .before .before .before .before .before .before .before .before .before .before .before .before .before .before .before .before .loop-test .taken,
+  c .before .before .before .before .before .before .before .before .before .before .before .before .before .before .before .before .before .before .before .before .before .before .before .before .before .before .before .before .before .before .before .before .before .before .before .before .before .before .before .before .before .before .before .before .before .before .before .before .before .before .before .before .before .before .before .before .before .before .before .before .before .before .before .before .before .before .before .fits .n,
 )
 
 couples-loop-less : (t : ℕ) → couples-lts.Need-loop-less (couples-claims t) (couples-at t) couples.Post couples-Inv-loop couples-μ-loop
 couples-loop-less t c = omega (
   arith,
-  c .before .before .before .before .before .before .before .before .before .before .before .before .before .before .before .before .before .before .before .before .before .before .before .before .before .before .before .before .before .before .before .before .before .before .before .before .before .before .before .before .before .before .before .before .before .before .before .before .before .before .before .before .before .loop-test .taken,
+  c .before .before .before .before .before .before .before .before .before .before .before .before .before .before .before .before .before .before .before .before .before .before .before .before .before .before .before .before .before .before .before .before .before .before .before .before .before .before .before .before .before .before .before .before .before .before .before .before .before .before .before .before .before .before .before .before .before .before .loop-test .taken,
 )
 
 couples-loop-again : (t : ℕ) → couples-lts.Need-loop-again (couples-claims t) (couples-at t) couples.Post couples-Inv-loop couples-μ-loop
+unfolding couple
 couples-loop-again t c =
     let b5 = c .before .before .before .before .before in
     let b8 = b5 .before .before .before in
     let b22 = b8 .before .before .before .before .before .before .before .before .before .before .before .before .before .before in
     let b23 = b22 .before in
     let b31 = b23 .before .before .before .before .before .before .before .before in
-    let b45 = b31 .before .before .before .before .before .before .before .before .before .before .before .before .before .before in
-    let b46 = b45 .before in
-    let b53 = b46 .before .before .before .before .before .before .before in
-    let b54 = b53 .before in
-    let b62 = b54 .before .before .before .before .before .before .before .before in
+    let b33 = b31 .before .before in
+    let b36 = b33 .before .before .before in
+    let b50 = b36 .before .before .before .before .before .before .before .before .before .before .before .before .before .before in
+    let b51 = b50 .before in
+    let b58 = b51 .before .before .before .before .before .before .before in
+    let b59 = b58 .before in
+    let b67 = b59 .before .before .before .before .before .before .before .before in
     record {
-      left = entries-more (b54 .loop .inv) (b53 .loop-test .taken) _ _ _ _ _ (ap doneOf (b8 .b .given .1)) (then _ _ _ _ _ _ _ _ _ _ (ap doneOf
-          (b31 .a .given .1)) (chosen (value (b62 .args .left)) _ _ _ _ (b46 .no-key .ensures) (b45 .value .ensures)) (chosen (value (b62 .args .left)) _
-          _ _ _ (b23 .no-key2 .ensures) (b22 .value2 .ensures))) (does-counted _ _ _ _ _ _ _ _ _ _ _ _ _ (b5 .counted .ensures)) _ (ap doneOf
+      left = entries-more (b59 .loop .inv) (b58 .loop-test .taken) _ _ _ _ _ (ap doneOf (b8 .b .given .1)) (then _ _ _ _ _ _ _ _ _ _ (ap doneOf
+          (b31 .k .given .1)) (then _ _ _ _ _ _ _ _ _ _ (ap doneOf (b36 .a .given .1)) (chosen (value (b67 .args .left)) _ _ _ _ (b51 .no-key .ensures)
+          (b50 .value .ensures)) (does-key-end _ _ _ _ _ _ _ _ _ _ _ (b33 .key-end .ensures))) (chosen (value (b67 .args .left)) _ _ _ _
+          (b23 .no-key2 .ensures) (b22 .value2 .ensures))) (does-counted _ _ _ _ _ _ _ _ _ _ _ _ _ (b5 .counted .ensures)) _ (ap doneOf
           (c .before .e .given .1));
       kept = record {
-        rows = b5 .counted .kept .0 ∙ b22 .value2 .kept .1 .0 ∙ b45 .value .kept .1 .0 ∙
-            b54 .loop .inv .kept .rows;
-        store = b22 .value2 .kept .1 .1 .0 ∙ b45 .value .kept .1 .1 .0 ∙ b54 .loop .inv .kept .store;
+        rows = b5 .counted .kept .0 ∙ b22 .value2 .kept .1 .0 ∙ b50 .value .kept .1 .0 ∙
+            b59 .loop .inv .kept .rows;
+        store = b22 .value2 .kept .1 .1 .0 ∙ b50 .value .kept .1 .1 .0 ∙ b59 .loop .inv .kept .store;
         strings =
-            b22 .value2 .kept .1 .1 .1 .0 ∙ b45 .value .kept .1 .1 .1 .0 ∙ b54 .loop .inv .kept .strings;
+            b22 .value2 .kept .1 .1 .1 .0 ∙ b50 .value .kept .1 .1 .1 .0 ∙ b59 .loop .inv .kept .strings;
         objects = b22 .value2 .kept .1 .1 .1 .1 .0 ∙
-            b45 .value .kept .1 .1 .1 .1 .0 ∙ b54 .loop .inv .kept .objects;
+            b50 .value .kept .1 .1 .1 .1 .0 ∙ b59 .loop .inv .kept .objects;
         traits = b22 .value2 .kept .1 .1 .1 .1 .1 .0 ∙
-            b45 .value .kept .1 .1 .1 .1 .1 .0 ∙ b54 .loop .inv .kept .traits;
+            b50 .value .kept .1 .1 .1 .1 .1 .0 ∙ b59 .loop .inv .kept .traits;
         names = b22 .value2 .kept .1 .1 .1 .1 .1 .1 .0 ∙
-            b45 .value .kept .1 .1 .1 .1 .1 .1 .0 ∙ b54 .loop .inv .kept .names;
+            b50 .value .kept .1 .1 .1 .1 .1 .1 .0 ∙ b59 .loop .inv .kept .names;
       };
     }
 
-couples-same-length-19 : (t : ℕ) → couples-lts.Need-same-length-19 (couples-claims t) (couples-at t) couples.Post couples-Inv-loop couples-μ-loop
-couples-same-length-19 t c = c .before .loop .inv .kept .rows
+couples-same-length-25 : (t : ℕ) → couples-lts.Need-same-length-25 (couples-claims t) (couples-at t) couples.Post couples-Inv-loop couples-μ-loop
+couples-same-length-25 t c = c .before .loop .inv .kept .rows
 
-couples-same-length-20 : (t : ℕ) → couples-lts.Need-same-length-20 (couples-claims t) (couples-at t) couples.Post couples-Inv-loop couples-μ-loop
-couples-same-length-20 t c = c .before .loop .inv .kept .store
+couples-same-length-26 : (t : ℕ) → couples-lts.Need-same-length-26 (couples-claims t) (couples-at t) couples.Post couples-Inv-loop couples-μ-loop
+couples-same-length-26 t c = c .before .loop .inv .kept .store
 
-couples-same-length-21 : (t : ℕ) → couples-lts.Need-same-length-21 (couples-claims t) (couples-at t) couples.Post couples-Inv-loop couples-μ-loop
-couples-same-length-21 t c = c .before .loop .inv .kept .strings
+couples-same-length-27 : (t : ℕ) → couples-lts.Need-same-length-27 (couples-claims t) (couples-at t) couples.Post couples-Inv-loop couples-μ-loop
+couples-same-length-27 t c = c .before .loop .inv .kept .strings
 
-couples-same-length-22 : (t : ℕ) → couples-lts.Need-same-length-22 (couples-claims t) (couples-at t) couples.Post couples-Inv-loop couples-μ-loop
-couples-same-length-22 t c = c .before .loop .inv .kept .objects
+couples-same-length-28 : (t : ℕ) → couples-lts.Need-same-length-28 (couples-claims t) (couples-at t) couples.Post couples-Inv-loop couples-μ-loop
+couples-same-length-28 t c = c .before .loop .inv .kept .objects
 
-couples-same-length-23 : (t : ℕ) → couples-lts.Need-same-length-23 (couples-claims t) (couples-at t) couples.Post couples-Inv-loop couples-μ-loop
-couples-same-length-23 t c = c .before .loop .inv .kept .traits
+couples-same-length-29 : (t : ℕ) → couples-lts.Need-same-length-29 (couples-claims t) (couples-at t) couples.Post couples-Inv-loop couples-μ-loop
+couples-same-length-29 t c = c .before .loop .inv .kept .traits
 
-couples-same-length-24 : (t : ℕ) → couples-lts.Need-same-length-24 (couples-claims t) (couples-at t) couples.Post couples-Inv-loop couples-μ-loop
-couples-same-length-24 t c = c .before .loop .inv .kept .names
+couples-same-length-30 : (t : ℕ) → couples-lts.Need-same-length-30 (couples-claims t) (couples-at t) couples.Post couples-Inv-loop couples-μ-loop
+couples-same-length-30 t c = c .before .loop .inv .kept .names
 
-couples-returns-4 : (t : ℕ) → couples-lts.Need-returns-4 (couples-claims t) (couples-at t) couples.Post couples-Inv-loop couples-μ-loop
-couples-returns-4 t c = entries-end (c .before .loop .inv) (c .loop-test .left)
+couples-returns-5 : (t : ℕ) → couples-lts.Need-returns-5 (couples-claims t) (couples-at t) couples.Post couples-Inv-loop couples-μ-loop
+couples-returns-5 t c = entries-end (c .before .loop .inv) (c .loop-test .left)
 
 abbrev dictionary-claims : ℕ → dictionary-lts.Claims
 dictionary-claims t =
@@ -1730,15 +1815,16 @@ object-members-returns-4 t c =
     (dynamics-some _ _ _ _ _ _ (b26 .if1 .left) (b19 .pairs .ensures))) (does-closed _ _ _ _ _ _ _ _ _ _ _ (c .before .before .closed2 .ensures))
 
 abbrev pairs-Inv-loop : pairs-lts.InvT-loop
-pairs-Inv-loop message rows₀ store₀ strings₀ objects₀ traits₀ names₀ row col left cur₀ i₀ rows store strings objects traits names cur i = Pairs
-    (value left) row col message (memory rows₀ store₀ strings₀ objects₀ traits₀ names₀) cur₀ i (memory rows store strings objects traits names) cur
+pairs-Inv-loop message rows₀ store₀ strings₀ objects₀ traits₀ names₀ row col left cur₀ i₀ rows store strings objects traits names cur i = Pairs left
+    row col message (memory rows₀ store₀ strings₀ objects₀ traits₀ names₀) cur₀ i (memory rows store strings objects traits names) cur
 
 abbrev pairs-μ-loop : pairs-lts.MeasureT-loop
-pairs-μ-loop message rows₀ store₀ strings₀ objects₀ traits₀ names₀ row col left cur₀ i₀ rows store strings objects traits names cur i = messageMost - i
+pairs-μ-loop message rows₀ store₀ strings₀ objects₀ traits₀ names₀ row col left cur₀ i₀ rows store strings objects traits names cur i = length message
+    - cur .at
 
 abbrev pairs-claims : ℕ → pairs-lts.Claims
 pairs-claims t =
-    (text-reads.Asked, text-reads.Learnt, no-text-reads.Asked, no-text-reads.Learnt, key-of-reads.Asked, key-of-reads.Learnt, value-below t, value.Post, counted-reads.Asked, counted-reads.Learnt, lost-reads.Asked, lost-reads.Learnt)
+    (text-reads.Asked, text-reads.Learnt, no-text-reads.Asked, no-text-reads.Learnt, key-of-reads.Asked, key-of-reads.Learnt, value-below t, value.Post, counted-reads.Asked, counted-reads.Learnt)
 
 pairs-loop-holds : (t : ℕ) → pairs-lts.Need-loop-holds (pairs-claims t) (pairs-at t) pairs.Post pairs-Inv-loop pairs-μ-loop
 pairs-loop-holds t c = pairs-start
@@ -1756,72 +1842,65 @@ pairs-no-text-requires : (t : ℕ) → pairs-lts.Need-no-text-requires (pairs-cl
 pairs-no-text-requires t c κs = search needs
 
 pairs-same-length : (t : ℕ) → pairs-lts.Need-same-length (pairs-claims t) (pairs-at t) pairs.Post pairs-Inv-loop pairs-μ-loop
-pairs-same-length t c = c .before .before .before .before .before .before .before .before .before .before .before .loop .inv .kept .rows
+pairs-same-length t c = c .before .before .before .before .before .before .before .before .before .before .loop .inv .kept .rows
 
 pairs-same-length-2 : (t : ℕ) → pairs-lts.Need-same-length-2 (pairs-claims t) (pairs-at t) pairs.Post pairs-Inv-loop pairs-μ-loop
 pairs-same-length-2 t c =
     let b7 = c .before .before .before .before .before .before .before in
-    let b11 = b7 .before .before .before .before in
-    b7 .text .kept .1 .0 ∙ b11 .loop .inv .kept .store
+    let b10 = b7 .before .before .before in
+    b7 .text .kept .1 .0 ∙ b10 .loop .inv .kept .store
 
 pairs-same-length-3 : (t : ℕ) → pairs-lts.Need-same-length-3 (pairs-claims t) (pairs-at t) pairs.Post pairs-Inv-loop pairs-μ-loop
 pairs-same-length-3 t c =
     let b7 = c .before .before .before .before .before .before .before in
-    let b11 = b7 .before .before .before .before in
-    b7 .text .kept .1 .1 .0 ∙ b11 .loop .inv .kept .strings
+    let b10 = b7 .before .before .before in
+    b7 .text .kept .1 .1 .0 ∙ b10 .loop .inv .kept .strings
 
 pairs-same-length-4 : (t : ℕ) → pairs-lts.Need-same-length-4 (pairs-claims t) (pairs-at t) pairs.Post pairs-Inv-loop pairs-μ-loop
-pairs-same-length-4 t c = c .before .before .before .before .before .before .before .before .before .before .before .loop .inv .kept .objects
+pairs-same-length-4 t c = c .before .before .before .before .before .before .before .before .before .before .loop .inv .kept .objects
 
 pairs-same-length-5 : (t : ℕ) → pairs-lts.Need-same-length-5 (pairs-claims t) (pairs-at t) pairs.Post pairs-Inv-loop pairs-μ-loop
-pairs-same-length-5 t c = c .before .before .before .before .before .before .before .before .before .before .before .loop .inv .kept .traits
+pairs-same-length-5 t c = c .before .before .before .before .before .before .before .before .before .before .loop .inv .kept .traits
 
 pairs-same-length-6 : (t : ℕ) → pairs-lts.Need-same-length-6 (pairs-claims t) (pairs-at t) pairs.Post pairs-Inv-loop pairs-μ-loop
-pairs-same-length-6 t c = c .before .before .before .before .before .before .before .before .before .before .before .loop .inv .kept .names
+pairs-same-length-6 t c = c .before .before .before .before .before .before .before .before .before .before .loop .inv .kept .names
 
 pairs-returns : (t : ℕ) → pairs-lts.Need-returns (pairs-claims t) (pairs-at t) pairs.Post pairs-Inv-loop pairs-μ-loop
 pairs-returns t c =
     let b7 = c .before .before .before .before .before .before .before in
     let b10 = b7 .before .before .before in
-    let b11 = b10 .before in
-    pairs-stop (b11 .loop .inv) (b10 .loop-test .taken) _ _ (b7 .text .ensures _ _ _ _) _ _ (ap textOf (c .before .enum-told .given .1))
-    (c .no-text .ensures _ (c .before .enum-told .given .1))
+    pairs-stop (b10 .loop .inv) _ _ (b7 .text .ensures _ _ _ _) _ _ (ap textOf (c .before .enum-told .given .1)) (c .no-text .ensures _
+    (c .before .enum-told .given .1))
 
 pairs-same-length-7 : (t : ℕ) → pairs-lts.Need-same-length-7 (pairs-claims t) (pairs-at t) pairs.Post pairs-Inv-loop pairs-μ-loop
-pairs-same-length-7 t c =
-    c .before .before .before .before .before .before .before .before .before .before .before .before .before .loop .inv .kept .rows
+pairs-same-length-7 t c = c .before .before .before .before .before .before .before .before .before .before .before .before .loop .inv .kept .rows
 
 pairs-same-length-8 : (t : ℕ) → pairs-lts.Need-same-length-8 (pairs-claims t) (pairs-at t) pairs.Post pairs-Inv-loop pairs-μ-loop
 pairs-same-length-8 t c =
     let b9 = c .before .before .before .before .before .before .before .before .before in
-    let b13 = b9 .before .before .before .before in
-    b9 .text .kept .1 .0 ∙ b13 .loop .inv .kept .store
+    let b12 = b9 .before .before .before in
+    b9 .text .kept .1 .0 ∙ b12 .loop .inv .kept .store
 
 pairs-same-length-9 : (t : ℕ) → pairs-lts.Need-same-length-9 (pairs-claims t) (pairs-at t) pairs.Post pairs-Inv-loop pairs-μ-loop
 pairs-same-length-9 t c =
     let b9 = c .before .before .before .before .before .before .before .before .before in
-    let b13 = b9 .before .before .before .before in
-    b9 .text .kept .1 .1 .0 ∙ b13 .loop .inv .kept .strings
+    let b12 = b9 .before .before .before in
+    b9 .text .kept .1 .1 .0 ∙ b12 .loop .inv .kept .strings
 
 pairs-same-length-10 : (t : ℕ) → pairs-lts.Need-same-length-10 (pairs-claims t) (pairs-at t) pairs.Post pairs-Inv-loop pairs-μ-loop
-pairs-same-length-10 t c =
-    c .before .before .before .before .before .before .before .before .before .before .before .before .before .loop .inv .kept .objects
+pairs-same-length-10 t c = c .before .before .before .before .before .before .before .before .before .before .before .before .loop .inv .kept .objects
 
 pairs-same-length-11 : (t : ℕ) → pairs-lts.Need-same-length-11 (pairs-claims t) (pairs-at t) pairs.Post pairs-Inv-loop pairs-μ-loop
-pairs-same-length-11 t c =
-    c .before .before .before .before .before .before .before .before .before .before .before .before .before .loop .inv .kept .traits
+pairs-same-length-11 t c = c .before .before .before .before .before .before .before .before .before .before .before .before .loop .inv .kept .traits
 
 pairs-same-length-12 : (t : ℕ) → pairs-lts.Need-same-length-12 (pairs-claims t) (pairs-at t) pairs.Post pairs-Inv-loop pairs-μ-loop
-pairs-same-length-12 t c =
-    c .before .before .before .before .before .before .before .before .before .before .before .before .before .loop .inv .kept .names
+pairs-same-length-12 t c = c .before .before .before .before .before .before .before .before .before .before .before .before .loop .inv .kept .names
 
 pairs-returns-2 : (t : ℕ) → pairs-lts.Need-returns-2 (pairs-claims t) (pairs-at t) pairs.Post pairs-Inv-loop pairs-μ-loop
 pairs-returns-2 t c =
     let b9 = c .before .before .before .before .before .before .before .before .before in
     let b12 = b9 .before .before .before in
-    let b13 = b12 .before in
-    pairs-over (b13 .loop .inv) (b12 .loop-test .taken) _ _ (b9 .text .ensures _ _ _ _) _ _ (ap textOf (c .before .before .before .k .given .1))
-    (c .if1 .taken)
+    pairs-over (b12 .loop .inv) _ _ (b9 .text .ensures _ _ _ _) _ _ (ap textOf (c .before .before .before .k .given .1)) (c .if1 .taken)
 
 pairs-key-of-requires : (t : ℕ) → pairs-lts.Need-key-of-requires (pairs-claims t) (pairs-at t) pairs.Post pairs-Inv-loop pairs-μ-loop
 pairs-key-of-requires t c κs = search needs
@@ -1830,7 +1909,7 @@ pairs-value-requires : (t : ℕ) → pairs-lts.Need-value-requires (pairs-claims
 pairs-value-requires t c κs = (
   omega (
     arith,
-    c .before .before .before .before .before .before .before .before .before .before .before .before .before .before .before .before .before .before .before .before .before .before .before .before .before .before .before .before .pre .0,
+    c .before .before .before .before .before .before .before .before .before .before .before .before .before .before .before .before .before .before .before .before .before .before .before .before .before .before .before .pre .0,
   ),
   tt,
 )
@@ -1844,50 +1923,50 @@ pairs-enum-told-2 t c = c .match2 .keys2
 pairs-same-length-13 : (t : ℕ) → pairs-lts.Need-same-length-13 (pairs-claims t) (pairs-at t) pairs.Post pairs-Inv-loop pairs-μ-loop
 pairs-same-length-13 t c =
     let b14 = c .before .before .before .before .before .before .before .before .before .before .before .before .before .before in
-    let b35 =
-    b14 .before .before .before .before .before .before .before .before .before .before .before .before .before .before .before .before .before .before .before .before .before
+    let b34 =
+    b14 .before .before .before .before .before .before .before .before .before .before .before .before .before .before .before .before .before .before .before .before
     in
-    b14 .value .kept .1 .0 ∙ b35 .loop .inv .kept .rows
+    b14 .value .kept .1 .0 ∙ b34 .loop .inv .kept .rows
 
 pairs-same-length-14 : (t : ℕ) → pairs-lts.Need-same-length-14 (pairs-claims t) (pairs-at t) pairs.Post pairs-Inv-loop pairs-μ-loop
 pairs-same-length-14 t c =
     let b14 = c .before .before .before .before .before .before .before .before .before .before .before .before .before .before in
     let b31 =
     b14 .before .before .before .before .before .before .before .before .before .before .before .before .before .before .before .before .before in
-    let b35 = b31 .before .before .before .before in
-    b14 .value .kept .1 .1 .0 ∙ b31 .text .kept .1 .0 ∙ b35 .loop .inv .kept .store
+    let b34 = b31 .before .before .before in
+    b14 .value .kept .1 .1 .0 ∙ b31 .text .kept .1 .0 ∙ b34 .loop .inv .kept .store
 
 pairs-same-length-15 : (t : ℕ) → pairs-lts.Need-same-length-15 (pairs-claims t) (pairs-at t) pairs.Post pairs-Inv-loop pairs-μ-loop
 pairs-same-length-15 t c =
     let b14 = c .before .before .before .before .before .before .before .before .before .before .before .before .before .before in
     let b31 =
     b14 .before .before .before .before .before .before .before .before .before .before .before .before .before .before .before .before .before in
-    let b35 = b31 .before .before .before .before in
-    b14 .value .kept .1 .1 .1 .0 ∙ b31 .text .kept .1 .1 .0 ∙ b35 .loop .inv .kept .strings
+    let b34 = b31 .before .before .before in
+    b14 .value .kept .1 .1 .1 .0 ∙ b31 .text .kept .1 .1 .0 ∙ b34 .loop .inv .kept .strings
 
 pairs-same-length-16 : (t : ℕ) → pairs-lts.Need-same-length-16 (pairs-claims t) (pairs-at t) pairs.Post pairs-Inv-loop pairs-μ-loop
 pairs-same-length-16 t c =
     let b14 = c .before .before .before .before .before .before .before .before .before .before .before .before .before .before in
-    let b35 =
-    b14 .before .before .before .before .before .before .before .before .before .before .before .before .before .before .before .before .before .before .before .before .before
+    let b34 =
+    b14 .before .before .before .before .before .before .before .before .before .before .before .before .before .before .before .before .before .before .before .before
     in
-    b14 .value .kept .1 .1 .1 .1 .0 ∙ b35 .loop .inv .kept .objects
+    b14 .value .kept .1 .1 .1 .1 .0 ∙ b34 .loop .inv .kept .objects
 
 pairs-same-length-17 : (t : ℕ) → pairs-lts.Need-same-length-17 (pairs-claims t) (pairs-at t) pairs.Post pairs-Inv-loop pairs-μ-loop
 pairs-same-length-17 t c =
     let b14 = c .before .before .before .before .before .before .before .before .before .before .before .before .before .before in
-    let b35 =
-    b14 .before .before .before .before .before .before .before .before .before .before .before .before .before .before .before .before .before .before .before .before .before
+    let b34 =
+    b14 .before .before .before .before .before .before .before .before .before .before .before .before .before .before .before .before .before .before .before .before
     in
-    b14 .value .kept .1 .1 .1 .1 .1 .0 ∙ b35 .loop .inv .kept .traits
+    b14 .value .kept .1 .1 .1 .1 .1 .0 ∙ b34 .loop .inv .kept .traits
 
 pairs-same-length-18 : (t : ℕ) → pairs-lts.Need-same-length-18 (pairs-claims t) (pairs-at t) pairs.Post pairs-Inv-loop pairs-μ-loop
 pairs-same-length-18 t c =
     let b14 = c .before .before .before .before .before .before .before .before .before .before .before .before .before .before in
-    let b35 =
-    b14 .before .before .before .before .before .before .before .before .before .before .before .before .before .before .before .before .before .before .before .before .before
+    let b34 =
+    b14 .before .before .before .before .before .before .before .before .before .before .before .before .before .before .before .before .before .before .before .before
     in
-    b14 .value .kept .1 .1 .1 .1 .1 .1 .0 ∙ b35 .loop .inv .kept .names
+    b14 .value .kept .1 .1 .1 .1 .1 .1 .0 ∙ b34 .loop .inv .kept .names
 
 pairs-returns-3 : (t : ℕ) → pairs-lts.Need-returns-3 (pairs-claims t) (pairs-at t) pairs.Post pairs-Inv-loop pairs-μ-loop
 pairs-returns-3 t c =
@@ -1897,10 +1976,9 @@ pairs-returns-3 t c =
     let b25 = b22 .before .before .before in
     let b31 = b25 .before .before .before .before .before .before in
     let b34 = b31 .before .before .before in
-    let b35 = b34 .before in
-    let b43 = b35 .before .before .before .before .before .before .before .before in
-    pairs-refused (b35 .loop .inv) (b34 .loop-test .taken) _ _ (b31 .text .ensures _ _ _ _) _ _ (ap textOf (b25 .k .given .1)) (b22 .if1 .left) _ _
-    (chosen (value (b43 .args .left)) _ _ _ _ (b15 .key-of .ensures) (b14 .value .ensures)) _ (ap doneOf (c .enum-told2 .given .1))
+    let b42 = b34 .before .before .before .before .before .before .before .before in
+    pairs-refused (b34 .loop .inv) _ _ (b31 .text .ensures _ _ _ _) _ _ (ap textOf (b25 .k .given .1)) (b22 .if1 .left) _ _ (chosen (value
+    (b42 .args .left)) _ _ _ _ (b15 .key-of .ensures) (b14 .value .ensures)) _ (ap doneOf (c .enum-told2 .given .1))
 
 pairs-counted-requires : (t : ℕ) → pairs-lts.Need-counted-requires (pairs-claims t) (pairs-at t) pairs.Post pairs-Inv-loop pairs-μ-loop
 pairs-counted-requires t c κs = search needs
@@ -1916,10 +1994,10 @@ pairs-same-length-19 t c =
     let b21 =
     c .before .before .before .before .before .before .before .before .before .before .before .before .before .before .before .before .before .before .before .before .before
     in
-    let b42 =
-    b21 .before .before .before .before .before .before .before .before .before .before .before .before .before .before .before .before .before .before .before .before .before
+    let b41 =
+    b21 .before .before .before .before .before .before .before .before .before .before .before .before .before .before .before .before .before .before .before .before
     in
-    c .before .before .before .before .counted .kept .0 ∙ b21 .value .kept .1 .0 ∙ b42 .loop .inv .kept .rows
+    c .before .before .before .before .counted .kept .0 ∙ b21 .value .kept .1 .0 ∙ b41 .loop .inv .kept .rows
 
 pairs-same-length-20 : (t : ℕ) → pairs-lts.Need-same-length-20 (pairs-claims t) (pairs-at t) pairs.Post pairs-Inv-loop pairs-μ-loop
 pairs-same-length-20 t c =
@@ -1928,8 +2006,8 @@ pairs-same-length-20 t c =
     in
     let b38 =
     b21 .before .before .before .before .before .before .before .before .before .before .before .before .before .before .before .before .before in
-    let b42 = b38 .before .before .before .before in
-    b21 .value .kept .1 .1 .0 ∙ b38 .text .kept .1 .0 ∙ b42 .loop .inv .kept .store
+    let b41 = b38 .before .before .before in
+    b21 .value .kept .1 .1 .0 ∙ b38 .text .kept .1 .0 ∙ b41 .loop .inv .kept .store
 
 pairs-same-length-21 : (t : ℕ) → pairs-lts.Need-same-length-21 (pairs-claims t) (pairs-at t) pairs.Post pairs-Inv-loop pairs-μ-loop
 pairs-same-length-21 t c =
@@ -1938,38 +2016,38 @@ pairs-same-length-21 t c =
     in
     let b38 =
     b21 .before .before .before .before .before .before .before .before .before .before .before .before .before .before .before .before .before in
-    let b42 = b38 .before .before .before .before in
-    b21 .value .kept .1 .1 .1 .0 ∙ b38 .text .kept .1 .1 .0 ∙ b42 .loop .inv .kept .strings
+    let b41 = b38 .before .before .before in
+    b21 .value .kept .1 .1 .1 .0 ∙ b38 .text .kept .1 .1 .0 ∙ b41 .loop .inv .kept .strings
 
 pairs-same-length-22 : (t : ℕ) → pairs-lts.Need-same-length-22 (pairs-claims t) (pairs-at t) pairs.Post pairs-Inv-loop pairs-μ-loop
 pairs-same-length-22 t c =
     let b21 =
     c .before .before .before .before .before .before .before .before .before .before .before .before .before .before .before .before .before .before .before .before .before
     in
-    let b42 =
-    b21 .before .before .before .before .before .before .before .before .before .before .before .before .before .before .before .before .before .before .before .before .before
+    let b41 =
+    b21 .before .before .before .before .before .before .before .before .before .before .before .before .before .before .before .before .before .before .before .before
     in
-    b21 .value .kept .1 .1 .1 .1 .0 ∙ b42 .loop .inv .kept .objects
+    b21 .value .kept .1 .1 .1 .1 .0 ∙ b41 .loop .inv .kept .objects
 
 pairs-same-length-23 : (t : ℕ) → pairs-lts.Need-same-length-23 (pairs-claims t) (pairs-at t) pairs.Post pairs-Inv-loop pairs-μ-loop
 pairs-same-length-23 t c =
     let b21 =
     c .before .before .before .before .before .before .before .before .before .before .before .before .before .before .before .before .before .before .before .before .before
     in
-    let b42 =
-    b21 .before .before .before .before .before .before .before .before .before .before .before .before .before .before .before .before .before .before .before .before .before
+    let b41 =
+    b21 .before .before .before .before .before .before .before .before .before .before .before .before .before .before .before .before .before .before .before .before
     in
-    b21 .value .kept .1 .1 .1 .1 .1 .0 ∙ b42 .loop .inv .kept .traits
+    b21 .value .kept .1 .1 .1 .1 .1 .0 ∙ b41 .loop .inv .kept .traits
 
 pairs-same-length-24 : (t : ℕ) → pairs-lts.Need-same-length-24 (pairs-claims t) (pairs-at t) pairs.Post pairs-Inv-loop pairs-μ-loop
 pairs-same-length-24 t c =
     let b21 =
     c .before .before .before .before .before .before .before .before .before .before .before .before .before .before .before .before .before .before .before .before .before
     in
-    let b42 =
-    b21 .before .before .before .before .before .before .before .before .before .before .before .before .before .before .before .before .before .before .before .before .before
+    let b41 =
+    b21 .before .before .before .before .before .before .before .before .before .before .before .before .before .before .before .before .before .before .before .before
     in
-    b21 .value .kept .1 .1 .1 .1 .1 .1 .0 ∙ b42 .loop .inv .kept .names
+    b21 .value .kept .1 .1 .1 .1 .1 .1 .0 ∙ b41 .loop .inv .kept .names
 
 pairs-returns-4 : (t : ℕ) → pairs-lts.Need-returns-4 (pairs-claims t) (pairs-at t) pairs.Post pairs-Inv-loop pairs-μ-loop
 pairs-returns-4 t c =
@@ -1980,23 +2058,33 @@ pairs-returns-4 t c =
     let b32 = b29 .before .before .before in
     let b38 = b32 .before .before .before .before .before .before in
     let b41 = b38 .before .before .before in
-    let b42 = b41 .before in
-    let b50 = b42 .before .before .before .before .before .before .before .before in
-    pairs-uncounted (b42 .loop .inv) (b41 .loop-test .taken) _ _ (b38 .text .ensures _ _ _ _) _ _ (ap textOf (b32 .k .given .1)) (b29 .if1 .left) _ _
-    (chosen (value (b50 .args .left)) _ _ _ _ (b22 .key-of .ensures) (b21 .value .ensures)) _ (ap doneOf (b7 .a .given .1)) _ _ (does-counted _ _ _
-    _ _ _ _ _ _ _ _ _ _ (c .before .before .before .before .counted .ensures)) _ (ap doneOf (c .enum-told3 .given .1))
+    let b49 = b41 .before .before .before .before .before .before .before .before in
+    pairs-uncounted (b41 .loop .inv) _ _ (b38 .text .ensures _ _ _ _) _ _ (ap textOf (b32 .k .given .1)) (b29 .if1 .left) _ _ (chosen (value
+    (b49 .args .left)) _ _ _ _ (b22 .key-of .ensures) (b21 .value .ensures)) _ (ap doneOf (b7 .a .given .1)) _ _ (does-counted _ _ _ _ _ _ _ _ _ _ _
+    _ _ (c .before .before .before .before .counted .ensures)) _ (ap doneOf (c .enum-told3 .given .1))
 
 pairs-add-i : (t : ℕ) → pairs-lts.Need-add-i (pairs-claims t) (pairs-at t) pairs.Post pairs-Inv-loop pairs-μ-loop
 pairs-add-i t c = omega (
   arith,
-  c .before .before .before .before .before .before .before .before .before .before .before .before .before .before .before .before .before .before .before .before .before .before .before .before .before .before .before .before .before .before .before .before .before .before .before .before .before .before .before .before .before .before .loop-test .taken,
+  rows-above _ _ _ _ _ _ _ _ (c .before .before .before .before .before .counted .ensures) (ap doneOf
+      (c .before .b .given .1)),
+  c .known-told3 .given,
 )
 
 pairs-loop-less : (t : ℕ) → pairs-lts.Need-loop-less (pairs-claims t) (pairs-at t) pairs.Post pairs-Inv-loop pairs-μ-loop
-pairs-loop-less t c = omega (
-  arith,
-  c .before .before .before .before .before .before .before .before .before .before .before .before .before .before .before .before .before .before .before .before .before .before .before .before .before .before .before .before .before .before .before .before .before .before .before .before .before .before .before .before .before .before .loop-test .taken,
-)
+pairs-loop-less t c =
+    let b5 = c .before .before .before .before .before in
+    let b8 = b5 .before .before .before in
+    let b22 = b8 .before .before .before .before .before .before .before .before .before .before .before .before .before .before in
+    let b23 = b22 .before in
+    let b30 = b23 .before .before .before .before .before .before .before in
+    let b33 = b30 .before .before .before in
+    let b39 = b33 .before .before .before .before .before .before in
+    let b42 = b39 .before .before .before in
+    let b50 = b42 .before .before .before .before .before .before .before .before in
+    pairs-less (b42 .loop .inv) _ _ (b39 .text .ensures _ _ _ _) _ _ (ap textOf (b33 .k .given .1)) (b30 .if1 .left) _ _ (chosen (value
+    (b50 .args .left)) _ _ _ _ (b23 .key-of .ensures) (b22 .value .ensures)) _ (ap doneOf (b8 .a .given .1)) _ _ (does-counted _ _ _ _ _ _ _ _ _ _ _
+    _ _ (b5 .counted .ensures)) _ (ap doneOf (c .before .b .given .1))
 
 pairs-loop-again : (t : ℕ) → pairs-lts.Need-loop-again (pairs-claims t) (pairs-at t) pairs.Post pairs-Inv-loop pairs-μ-loop
 pairs-loop-again t c =
@@ -2008,48 +2096,24 @@ pairs-loop-again t c =
     let b33 = b30 .before .before .before in
     let b39 = b33 .before .before .before .before .before .before in
     let b42 = b39 .before .before .before in
-    let b43 = b42 .before in
-    let b51 = b43 .before .before .before .before .before .before .before .before in
+    let b50 = b42 .before .before .before .before .before .before .before .before in
     record {
-      left = pairs-more (b43 .loop .inv) (b42 .loop-test .taken) _ _ (b39 .text .ensures _ _ _ _) _ _ (ap textOf (b33 .k .given .1))
-          (b30 .if1 .left) _ _ (chosen (value (b51 .args .left)) _ _ _ _ (b23 .key-of .ensures) (b22 .value .ensures)) _ (ap doneOf (b8 .a .given .1)) _ _
-          (does-counted _ _ _ _ _ _ _ _ _ _ _ _ _ (b5 .counted .ensures)) _ (ap doneOf (c .before .b .given .1));
+      left = pairs-more (b42 .loop .inv) _ _ (b39 .text .ensures _ _ _ _) _ _ (ap textOf (b33 .k .given .1)) (b30 .if1 .left) _ _ (chosen
+          (value (b50 .args .left)) _ _ _ _ (b23 .key-of .ensures) (b22 .value .ensures)) _ (ap doneOf (b8 .a .given .1)) _ _ (does-counted _ _ _ _ _ _ _
+          _ _ _ _ _ _ (b5 .counted .ensures)) _ (ap doneOf (c .before .b .given .1));
       kept = record {
-        rows =
-            b5 .counted .kept .0 ∙ b22 .value .kept .1 .0 ∙ b43 .loop .inv .kept .rows;
-        store = b22 .value .kept .1 .1 .0 ∙ b39 .text .kept .1 .0 ∙
-            b43 .loop .inv .kept .store;
-        strings = b22 .value .kept .1 .1 .1 .0 ∙ b39 .text .kept .1 .1 .0 ∙ b43 .loop .inv .kept .strings;
-        objects =
-            b22 .value .kept .1 .1 .1 .1 .0 ∙ b43 .loop .inv .kept .objects;
-        traits = b22 .value .kept .1 .1 .1 .1 .1 .0 ∙ b43 .loop .inv .kept .traits;
-        names = b22 .value .kept .1 .1 .1 .1 .1 .1 .0 ∙ b43 .loop .inv .kept .names;
+        rows = b5 .counted .kept .0 ∙ b22 .value .kept .1 .0
+            ∙ b42 .loop .inv .kept .rows;
+        store = b22 .value .kept .1 .1 .0 ∙ b39 .text .kept .1 .0 ∙ b42 .loop .inv .kept .store;
+        strings =
+            b22 .value .kept .1 .1 .1 .0 ∙ b39 .text .kept .1 .1 .0 ∙ b42 .loop .inv .kept .strings;
+        objects = b22 .value .kept .1 .1 .1 .1 .0 ∙
+            b42 .loop .inv .kept .objects;
+        traits = b22 .value .kept .1 .1 .1 .1 .1 .0 ∙ b42 .loop .inv .kept .traits;
+        names =
+            b22 .value .kept .1 .1 .1 .1 .1 .1 .0 ∙ b42 .loop .inv .kept .names;
       };
     }
-
-pairs-lost-requires : (t : ℕ) → pairs-lts.Need-lost-requires (pairs-claims t) (pairs-at t) pairs.Post pairs-Inv-loop pairs-μ-loop
-pairs-lost-requires t c κs = search needs
-
-pairs-same-length-25 : (t : ℕ) → pairs-lts.Need-same-length-25 (pairs-claims t) (pairs-at t) pairs.Post pairs-Inv-loop pairs-μ-loop
-pairs-same-length-25 t c = c .before .before .loop .inv .kept .rows
-
-pairs-same-length-26 : (t : ℕ) → pairs-lts.Need-same-length-26 (pairs-claims t) (pairs-at t) pairs.Post pairs-Inv-loop pairs-μ-loop
-pairs-same-length-26 t c = c .before .before .loop .inv .kept .store
-
-pairs-same-length-27 : (t : ℕ) → pairs-lts.Need-same-length-27 (pairs-claims t) (pairs-at t) pairs.Post pairs-Inv-loop pairs-μ-loop
-pairs-same-length-27 t c = c .before .before .loop .inv .kept .strings
-
-pairs-same-length-28 : (t : ℕ) → pairs-lts.Need-same-length-28 (pairs-claims t) (pairs-at t) pairs.Post pairs-Inv-loop pairs-μ-loop
-pairs-same-length-28 t c = c .before .before .loop .inv .kept .objects
-
-pairs-same-length-29 : (t : ℕ) → pairs-lts.Need-same-length-29 (pairs-claims t) (pairs-at t) pairs.Post pairs-Inv-loop pairs-μ-loop
-pairs-same-length-29 t c = c .before .before .loop .inv .kept .traits
-
-pairs-same-length-30 : (t : ℕ) → pairs-lts.Need-same-length-30 (pairs-claims t) (pairs-at t) pairs.Post pairs-Inv-loop pairs-μ-loop
-pairs-same-length-30 t c = c .before .before .loop .inv .kept .names
-
-pairs-returns-5 : (t : ℕ) → pairs-lts.Need-returns-5 (pairs-claims t) (pairs-at t) pairs.Post pairs-Inv-loop pairs-μ-loop
-pairs-returns-5 t c = pairs-end (c .before .before .loop .inv) _ (c .before .loop-test .left) (c .lost .ensures)
 
 abbrev sealed-Inv-loop : sealed-lts.InvT-loop
 sealed-Inv-loop message rows₀ store₀ strings₀ objects₀ traits₀ names₀ row t left cur₀ i₀ name₀ rows store strings objects traits names cur i name =
@@ -2642,13 +2706,15 @@ pub +array+couples+dictionary+items+marked+new-value+object+object-members+pairs
     (λ t. couples-lts.spec (couples-claims t) (couples-at t) couples.Post couples-Inv-loop couples-μ-loop (couples-loop-holds t)
     (couples-no-key-requires t) (couples-value-requires t) (couples-enum-known-a t) (couples-enum-told t) (couples-same-length t)
     (couples-same-length-2 t) (couples-same-length-3 t) (couples-same-length-4 t) (couples-same-length-5 t) (couples-same-length-6 t)
-    (couples-returns t) (couples-no-key-requires-2 t) (couples-value-requires-2 t) (couples-enum-known-b t) (couples-enum-told-2 t)
-    (couples-same-length-7 t) (couples-same-length-8 t) (couples-same-length-9 t) (couples-same-length-10 t) (couples-same-length-11 t)
-    (couples-same-length-12 t) (couples-returns-2 t) (couples-counted-requires t) (couples-enum-known-e t) (couples-enum-told-3 t)
+    (couples-returns t) (couples-key-end-requires t) (couples-enum-known-k t) (couples-enum-told-2 t) (couples-same-length-7 t)
+    (couples-same-length-8 t) (couples-same-length-9 t) (couples-same-length-10 t) (couples-same-length-11 t) (couples-same-length-12 t)
+    (couples-returns-2 t) (couples-no-key-requires-2 t) (couples-value-requires-2 t) (couples-enum-known-b t) (couples-enum-told-3 t)
     (couples-same-length-13 t) (couples-same-length-14 t) (couples-same-length-15 t) (couples-same-length-16 t) (couples-same-length-17 t)
-    (couples-same-length-18 t) (couples-returns-3 t) (couples-add-i t) (couples-loop-less t) (couples-loop-again t) (couples-same-length-19 t)
-    (couples-same-length-20 t) (couples-same-length-21 t) (couples-same-length-22 t) (couples-same-length-23 t) (couples-same-length-24 t)
-    (couples-returns-4 t))
+    (couples-same-length-18 t) (couples-returns-3 t) (couples-counted-requires t) (couples-enum-known-e t) (couples-enum-told-4 t)
+    (couples-same-length-19 t) (couples-same-length-20 t) (couples-same-length-21 t) (couples-same-length-22 t) (couples-same-length-23 t)
+    (couples-same-length-24 t) (couples-returns-4 t) (couples-add-i t) (couples-loop-less t) (couples-loop-again t) (couples-same-length-25 t)
+    (couples-same-length-26 t) (couples-same-length-27 t) (couples-same-length-28 t) (couples-same-length-29 t) (couples-same-length-30 t)
+    (couples-returns-5 t))
     (λ t. dictionary-lts.spec (dictionary-claims t) (dictionary-at t) dictionary.Post (dictionary-weak-flag-requires t) (dictionary-enum-known-a t)
     (dictionary-enum-told t) (dictionary-same-length t) (dictionary-returns t) (dictionary-couples-requires t) (dictionary-enum-known-b t)
     (dictionary-enum-told-2 t) (dictionary-same-length-2 t) (dictionary-same-length-3 t) (dictionary-same-length-4 t) (dictionary-same-length-5 t)
@@ -2703,9 +2769,7 @@ pub +array+couples+dictionary+items+marked+new-value+object+object-members+pairs
     (pairs-value-requires t) (pairs-enum-known-a t) (pairs-enum-told-2 t) (pairs-same-length-13 t) (pairs-same-length-14 t) (pairs-same-length-15 t)
     (pairs-same-length-16 t) (pairs-same-length-17 t) (pairs-same-length-18 t) (pairs-returns-3 t) (pairs-counted-requires t) (pairs-enum-known-b t)
     (pairs-enum-told-3 t) (pairs-same-length-19 t) (pairs-same-length-20 t) (pairs-same-length-21 t) (pairs-same-length-22 t)
-    (pairs-same-length-23 t) (pairs-same-length-24 t) (pairs-returns-4 t) (pairs-add-i t) (pairs-loop-less t) (pairs-loop-again t)
-    (pairs-lost-requires t) (pairs-same-length-25 t) (pairs-same-length-26 t) (pairs-same-length-27 t) (pairs-same-length-28 t)
-    (pairs-same-length-29 t) (pairs-same-length-30 t) (pairs-returns-5 t))
+    (pairs-same-length-23 t) (pairs-same-length-24 t) (pairs-returns-4 t) (pairs-add-i t) (pairs-loop-less t) (pairs-loop-again t))
     (λ t. sealed-lts.spec (sealed-claims t) (sealed-at t) sealed.Post sealed-Inv-loop sealed-μ-loop (sealed-loop-holds t)
     (sealed-sealed-key-requires t) (sealed-enum-known-k t) (sealed-enum-told t) (sealed-no-key-requires t) (sealed-same-length t)
     (sealed-same-length-2 t) (sealed-same-length-3 t) (sealed-same-length-4 t) (sealed-same-length-5 t) (sealed-same-length-6 t) (sealed-returns t)
