@@ -10,15 +10,12 @@ use Rattle.format.specs.Standard.{Tables, standard, encode}
 use Rattle.format.specs.Unfold.{unfolded}
 use Rattle.format.specs.Holds.{canHold}
 use Rattle.format.specs.Writing.{written, writing}
-use Rattle.format.proofs.Writable.{Writable}
+use Rattle.format.specs.Writable.{Writable}
 use Rattle.format.proofs.Round.{standard-round, encode-injective}
 use Rattle.format.proofs.Unfolded.{unfolded-fits}
 use Rattle.format.proofs.Finishes.{Unlimited, reading-unlimited}
 use Rattle.format.proofs.Writes.{accepted, reported}
-
--- rows as the code has them: their numbers have 64 bits
-abbrev pub Wide : List ℕ → Type 0
-Wide R = (i : ℕ) → getD R i 0 < 2 ^ 64
+pub use Rattle.format.specs.Claims.{Wide}
 
 module _ (R B out P : List ℕ) (n : ℕ) (wide : Wide R) (e : writing R B out ≡ written n P) where
   fits : Writable (unfolded R B 0)

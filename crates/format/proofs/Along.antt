@@ -57,16 +57,7 @@ use Rattle.format.proofs.Kept.{keeps-integer, keeps-date, keeps-bodied,
 use Rattle.format.proofs.Kept.{keeps-grown, keeps-referred, keeps-marker, keeps-shut, keeps-old-text, keeps-reserved, keeps-stored, keeps-judged}
 use Rattle.format.proofs.Kept.{keeps-text-end, keeps-entered, keeps-old-trait, keeps-named, keeps-trait-end, keeps-sealed, keeps-starred}
 use Rattle.format.specs.Refusals as no
-
--- as many open values as a mode may have around it
-abbrev pub Fits : Mode → ℕ → Type 0
-Fits (atMarker k) n = n ≤ openLimit
-Fits (atWord w left part) n = n < openLimit
-Fits (atNumber d left part) n = n < openLimit
-Fits (atFlag f) n = n < openLimit
-Fits (atText x s left test) n = n < openLimit
-Fits (atRaw r s left) n = n < openLimit
-Fits astray n = ⊥
+pub use Rattle.format.specs.Together.{Fits}
 
 -- a task needs its row where it may have a key to read
 abbrev TaskIn : Task → Cursor → Type 0

@@ -26,7 +26,7 @@ use Rattle.format.specs.Standard.{textOf, text}
 use Rattle.format.specs.Standard.{opened, shut, vectorOf, newOf, sizedOf, marked, value, sizeBytes, textBytes, flagByte, encodePlain}
 use Rattle.format.proofs.Tests.{flag-back}
 use Rattle.format.proofs.Words.{word-round, size-new}
-use Rattle.format.proofs.Writable.{IsText, IsRaw, WritablePlain}
+use Rattle.format.specs.Writable.{IsText, IsRaw, WritablePlain}
 
 pub record Reads {A : Type 0} (g : Std A) (bs : List ℕ) (a : A) : Type 0 where
   pub reads : (s : Tables) (p : ℕ) (rest : List ℕ) → (s′ : Tables) × (g s p (bs ++ rest) ≡ ok a s′ (p + length bs) rest)

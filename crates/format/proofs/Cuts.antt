@@ -6,11 +6,7 @@ use Rattle.rows.specs.Memory.{Memory}
 use Rattle.format.specs.Reading.{Ended, reading}
 use Rattle.format.specs.Step.{State, over, step, run, end, begin}
 use Rattle.format.proofs.Feeding.{feeding}
-
--- the pieces of a message, joined
-abbrev pub joined : List (List ℕ) → List ℕ
-joined [] = []
-joined (piece ∷ pieces) = piece ++ joined pieces
+pub use Rattle.format.specs.Claims.{joined}
 
 -- a piece after a piece
 pub run-append : (s : State) (a b : List ℕ) → run s (a ++ b) ≡ run (run s a) b

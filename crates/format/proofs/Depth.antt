@@ -19,6 +19,7 @@ use Rattle.format.specs.Decide.{Out, stop, lift, onRows, marker, kindOf}
 use Rattle.format.specs.Decide.{Body, xml, date, array, bytes, raw, objects, dictionary, Kind, leaf, integer, double, string, object, sized}
 use Rattle.format.specs.Reading.{Result, ok, bad, bind, _>>=_, byte, Reader, Values, by, decided, entries, pair, pairsBy, pairs, couple, dynamics, members}
 use Rattle.format.specs.Reading.{inlined, objectOf, newOf, sizedOf, marked, value, Ended, refused, ended, unlessFault, reading}
+pub use Rattle.format.specs.Claims.{Shallow}
 
 -- ---- results of which the second had no less depth
 
@@ -145,10 +146,6 @@ deeper (suc left) zero h k m c bs = absurd (omega arith)
 deeper (suc left) (suc more) h k m c bs = less-bind {v = byte m c bs} same (less-value (deeper left more (omega arith)) k left more)
 
 -- ---- a message
-
--- not refused for depth
-abbrev pub Shallow : Ended → Type 0
-Shallow e = (told place : ℕ) (m : Memory) → e ≢ refused 9 told place m
 
 ended-less : {v w : Result Unit} → Less v w → Shallow (ended v) → ended w ≡ ended v
 unfolding ended

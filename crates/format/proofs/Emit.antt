@@ -15,6 +15,7 @@ use Rattle.format.specs.Writing.{emitTrees, emitPairs, emitValues, emitD
 use Rattle.format.proofs.Tests.{or-true, clash}
 use Rattle.format.proofs.Parts.{Piece, own, child, treeParts, pairParts, valueParts, dynamicParts, entryParts, parts}
 use Rattle.format.proofs.Parts.{bytesIn, joined, encode-parts, depth, depthIn, deepest, depth-parts}
+pub use Rattle.format.specs.Endings.{Among, here, later, Nested}
 
 -- ---- streams one after the other
 
@@ -182,16 +183,6 @@ emit-deep (suc left) t =
     rw (in-parts (emit left) t, depth-parts t, leb·suc-suc (suc left) (deepest (parts t))) (parts-deep (emit left) left (emit-deep left) (parts t))
 
 -- ---- the value that they stop at
-
--- u stands in one of the pieces, where P says so, behind their first bytes x
-pub data Among (P : Tree → Tree → List ℕ → Type 0) : List Piece → Tree → List ℕ → Type 0 where
-  here : {t u : Tree} {ps : List Piece} {x : List ℕ} → P t u x → Among P (child t ∷ ps) u x
-  later : {u : Tree} {ps : List Piece} {x : List ℕ} (p : Piece) → Among P ps u x → Among P (p ∷ ps) u (bytesIn p ++ x)
-
--- u stands in t with n values open around it, behind its first bytes x
-abbrev pub Nested : ℕ → Tree → Tree → List ℕ → Type 0
-Nested zero t u x = (t ≡ u) × (x ≡ [])
-Nested (suc n) t u x = Among (Nested n) (parts t) u x
 
 -- u's own bytes come behind x
 abbrev Follows : List ℕ → Tree → List ℕ → Type 0

@@ -34,10 +34,11 @@ use Rattle.format.proofs.Along.{Able, awaits, completes, rejects}
 use Rattle.format.proofs.Shows.{able-along}
 use Rattle.format.proofs.Depth.{deeper-reading}
 use Rattle.format.proofs.Parts.{depth}
-use Rattle.format.proofs.Writable.{Writable}
+use Rattle.format.specs.Writable.{Writable}
 use Rattle.format.proofs.Holds.{Spent, Exact, Any}
 use Rattle.format.proofs.Finishes.{tree-goes}
 use Rattle.format.proofs.Trip.{Returns, tree-trip}
+pub use Rattle.format.specs.Claims.{Held-just, holds, lacks}
 
 -- ---- what a finished reading used lies within the loans
 
@@ -86,11 +87,6 @@ held-exactly m t w rest c k e =
       le-leb (ofTree t .traits * traitWidth) (length (m .traits)) (omega arith),
       le-leb (ofTree t .names * spanWidth) (length (m .names)) (omega arith),
     )
-
--- a reading of a written tree finishes on the tree just where the loans can hold it
-pub data Held-just (m : Memory) (t : Tree) (rest : List ℕ) : Bool → Type 0 where
-  holds : Returns (reading m (encode t ++ rest)) (length (encode t)) t → Held-just m t rest true
-  lacks : ((c : Cursor) (k : Memory) → reading m (encode t ++ rest) ≢ finished c k) → Held-just m t rest false
 
 -- for every tree that can be written and doesn't nest too deep
 pub can-hold-exact : (m : Memory) (t : Tree) → faultOf m ≡ 0 → Writable t → depth t ≤ openLimit → (rest : List ℕ) → Bytes (encode t ++ rest)

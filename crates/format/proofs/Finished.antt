@@ -23,13 +23,7 @@ use Rattle.format.proofs.Stages.{Ok, Val}
 use Rattle.format.proofs.Posts.{Post, stops, gets}
 use Rattle.format.proofs.ValueRows.{value-reads}
 use Rattle.rows.specs.Memory.{rowWidth, colEnd}
-
--- the part of the rows and of the store that a finished reading used
-abbrev pub usedRows : Cursor → Memory → List ℕ
-usedRows c m = take (c .rows * rowWidth) (m .rows)
-
-abbrev pub usedStore : Cursor → Memory → List ℕ
-usedStore c m = take (c .store) (m .store)
+pub use Rattle.format.specs.Claims.{usedRows, usedStore}
 
 pub used-many : (c : Cursor) (m : Memory) → c .rows * rowWidth ≤ length (m .rows) → rowsIn (usedRows c m) ≡ c .rows
 used-many c m h =

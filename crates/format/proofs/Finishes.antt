@@ -31,8 +31,8 @@ use Rattle.format.specs.Standard.{count, countPairs, countEntries, sizeB
 use Rattle.format.specs.Standard.{arrayHead, objectHead, vectorHead, dictionaryHead}
 use Rattle.format.specs.Standard.{encode, encodeTrees, encodePairs, encodeValues, encodeDynamic, encodeEntries}
 use Rattle.format.proofs.Parts.{depth, depthTrees, depthPairs, depthEntries}
-use Rattle.format.proofs.Writable.{IsText, IsKey, IsType, IfGiven, IsRaw, WritablePlain}
-use Rattle.format.proofs.Writable.{Writable, WritableTrees, WritablePairs, WritableMembers, WritableEntries}
+use Rattle.format.specs.Writable.{IsText, IsKey, IsType, IfGiven, IsRaw, WritablePlain}
+use Rattle.format.specs.Writable.{Writable, WritableTrees, WritablePairs, WritableMembers, WritableEntries}
 use Rattle.format.specs.Holds.{Room, room, _and_, nothing, aRow, anObject, ofText, ofClass, ofPlain, ofTree, ofTrees, ofPairs, ofSealed, ofEntries}
 use Rattle.format.specs.Holds.{canHold}
 use Rattle.format.proofs.Size.{holds, held-below}

@@ -61,7 +61,6 @@ pub mod Writes
 pub mod Fuel
 pub mod Words
 pub mod Own
-pub mod Writable
 pub mod Back
 pub mod Round
 -- Tested rows: their tree can be written, and has all its levels.

@@ -29,15 +29,9 @@ use Rattle.format.proofs.Used.{Counts}
 use Rattle.format.proofs.Along.{Fits}
 use Rattle.format.proofs.Shows.{able-along, able-waits}
 use Rattle.format.specs.Refusals as no
+pub use Rattle.format.specs.Limits.{Awaits, Limit, deep, full, long}
 
 -- ---- why
-
--- byte b of bs, behind those before it, is the next one for a reading with the loans m that waits: for what, with which values open, and what is used
-pub record Awaits (m : Memory) (bs before : List ℕ) (b : ℕ) (x : Mode) (ts : List Frame) (c : Cursor) : Type 0 where
-  pub after : List ℕ
-  pub loans : Memory
-  pub split : bs ≡ before ++ b ∷ after
-  pub waiting : run (begin m) before ≡ wait x ts c loans
 
 -- so there is a byte more than those before it
 awaits-length : {m : Memory} {bs before : List ℕ} {b : ℕ} {x : Mode} {ts : List Frame} {c : Cursor} → Awaits m bs before b x ts c → length before < length bs
@@ -46,18 +40,6 @@ awaits-length {before = before} {b = b} w = rw (w .split) (omega (arith, length-
 -- and no more is used than is lent: where all are used, as many are
 pub awaits-counts : {m : Memory} {bs before : List ℕ} {b : ℕ} {x : Mode} {ts : List Frame} {c : Cursor} → Awaits m bs before b x ts c → Counts (lentOf m) c
 awaits-counts {m = m} {before = before} w = let (h, f, u) = able-waits (rw (w .waiting) at (able-along m before)) in h .counts
-
--- why a reading of bs with the loans m is refused by a limit or for want of room: number, told value and place
-pub data Limit (m : Memory) (bs : List ℕ) : ℕ → ℕ → ℕ → Type 0 where
-  -- the byte is a marker, and as many values are open as can be
-  deep : {before : List ℕ} {b : ℕ} {k : Key} {ts : List Frame} {c : Cursor} → Awaits m bs before b (atMarker k) ts c → length before < messageLimit
-      → b ≤ 0x11 → length ts ≡ openLimit → Limit m bs no.tooDeep 0 (suc (length before))
-  -- the byte asks for more of a loan than is left of it
-  full : {before : List ℕ} {b loan : ℕ} {x : Mode} {ts : List Frame} {c : Cursor} → Awaits m bs before b x ts c → length before < messageLimit
-      → Lacks c m b x loan → Limit m bs no.noRoom loan (suc (length before))
-  -- as many bytes are taken as can be, and there is another
-  long : {before : List ℕ} {b : ℕ} {x : Mode} {ts : List Frame} {c : Cursor} → Awaits m bs before b x ts c → length before ≡ messageLimit
-      → Limit m bs no.tooLong 0 messageLimit
 
 -- such a refusal is 9, 10 or 11
 pub limit-most : {m : Memory} {bs : List ℕ} {n told place : ℕ} → Limit m bs n told place → (no.tooDeep ≤ n) × (n ≤ no.tooLong)

@@ -34,18 +34,9 @@ use Rattle.format.proofs.Unfolding.{View, rep-unfolds}
 use Rattle.format.proofs.Values.{value-alike}
 use Rattle.format.proofs.Limits.{Limit, limit-most, limits}
 use Rattle.format.specs.Refusals as refusals
+pub use Rattle.format.specs.Limits.{Accord, reads, refuses, limited, Kept-to, finishes, stops, meets}
 
 -- ---- what is said of a reading and the standard's
-
--- how a reading of bs with the loans lent, and the standard's, end
-pub data Accord (lent : Memory) (bs : List ℕ) : Ended → ResultOf Tables ℕ Tree → Type 0 where
-  -- both finish after as many bytes, and the rows that are used unfold to the standard's tree
-  reads : {c : Cursor} {m : Memory} {t : Tree} {s : Tables} {rest : List ℕ} → bs ≡ take (c .at) bs ++ rest → c .at ≤ length bs
-      → unfolded (usedRows c m) (usedStore c m) 0 ≡ t → unfolded (usedRows c m) (m .store) 0 ≡ t → Accord lent bs (finished c m) (ok t s (c .at) rest)
-  -- both refuse alike, by a number of the standard's
-  refuses : {n told place : ℕ} {m : Memory} {s : Tables} → 2 ≤ n → n ≤ 8 → Accord lent bs (refused n told place m) (bad n told place s)
-  -- a limit is met, or a loan is full, and why
-  limited : {n told place : ℕ} {m : Memory} {y : ResultOf Tables ℕ Tree} → Limit lent bs n told place → Accord lent bs (refused n told place m) y
 
 -- ---- a fresh reading
 
@@ -143,13 +134,6 @@ pub record Understood (bs : List ℕ) (y : ResultOf Tables ℕ Tree) (c : Cursor
   pub within : c .at ≤ length bs
   pub unfolds : unfolded (usedRows c m) (usedStore c m) 0 ≡ tree
   pub unfoldsWhole : unfolded (usedRows c m) (m .store) 0 ≡ tree
-
--- what the standard finishes, or refuses, a reading of bs with the loans lent finishes or refuses so, unless a limit is met, or a loan is full, and why
-pub data Kept-to (lent : Memory) (bs : List ℕ) (e : Ended) : ResultOf Tables ℕ Tree → Type 0 where
-  finishes : {t : Tree} {s : Tables} {p : ℕ} {rest : List ℕ} (c : Cursor) (m′ : Memory) → e ≡ finished c m′ → c .at ≡ p
-      → unfolded (usedRows c m′) (usedStore c m′) 0 ≡ t → Kept-to lent bs e (ok t s p rest)
-  stops : {n told place : ℕ} {s : Tables} (m′ : Memory) → e ≡ refused n told place m′ → Kept-to lent bs e (bad n told place s)
-  meets : {y : ResultOf Tables ℕ Tree} (n told place : ℕ) (m′ : Memory) → Limit lent bs n told place → e ≡ refused n told place m′ → Kept-to lent bs e y
 
 module _ (m : Memory) (bs : List ℕ) (octets : Bytes bs) (accepted : faultOf m ≡ 0) where
   -- what is finished is the standard's tree

@@ -6,43 +6,11 @@ use native.Mathlib.Omega.{arith}
 use Rattle.format.specs.Standard.{Tree, plain, array, object, objectVector, dictionary, Trees, nil, cons, Pairs, noPairs, pair, Entries}
 use Rattle.format.specs.Standard.{noEntries, entry, textBytes, encodePlain, arrayHead, objectHead, vectorHead, dictionaryHead}
 use Rattle.format.specs.Standard.{encode, encodeTrees, encodePairs, encodeValues, encodeDynamic, encodeEntries}
-
-pub data Piece : Type 0 where
-  own : List ℕ → Piece
-  child : Tree → Piece
-
-unfoldable pub treeParts : Trees → List Piece
-treeParts nil = []
-treeParts (cons t ts) = child t ∷ treeParts ts
-
-unfoldable pub pairParts : Pairs → List Piece
-pairParts noPairs = []
-pairParts (pair x t ps) = own (textBytes x) ∷ child t ∷ pairParts ps
-
-unfoldable pub valueParts : Pairs → List Piece
-valueParts noPairs = []
-valueParts (pair x t ps) = child t ∷ valueParts ps
-
-unfoldable pub dynamicParts : Pairs → List Piece
-dynamicParts noPairs = []
-dynamicParts (pair x t ps) = pairParts (pair x t ps) ++ own (0x01 ∷ []) ∷ []
-
-unfoldable pub entryParts : Entries → List Piece
-entryParts noEntries = []
-entryParts (entry a b es) = child a ∷ child b ∷ entryParts es
-
-unfoldable pub parts : Tree → List Piece
-parts (plain p) = own (encodePlain p) ∷ []
-parts (array xs ts) = own (arrayHead ts) ∷ pairParts xs ++ own (0x01 ∷ []) ∷ treeParts ts
-parts (object class xs ys) = own (objectHead class xs ys) ∷ valueParts xs ++ dynamicParts ys
-parts (objectVector fixed class ts) = own (vectorHead fixed class ts) ∷ treeParts ts
-parts (dictionary weak es) = own (dictionaryHead weak es) ∷ entryParts es
+pub use Rattle.format.specs.Endings.{Piece, own, child, bytesIn}
+unfoldable pub use Rattle.format.specs.Endings.{depth, depthTrees, depthPairs, depthEntries}
+unfoldable pub use Rattle.format.specs.Endings.{treeParts, pairParts, valueParts, dynamicParts, entryParts, parts}
 
 -- ---- their bytes are the value's
-
-abbrev pub bytesIn : Piece → List ℕ
-bytesIn (own bs) = bs
-bytesIn (child t) = encode t
 
 unfoldable pub joined : List Piece → List ℕ
 joined [] = []
@@ -92,26 +60,6 @@ encode-parts (objectVector fixed class ts) = rw (tree-bytes ts)
 encode-parts (dictionary weak es) = rw (entry-bytes es)
 
 -- ---- how deep a value nests: one that holds no others counts 1
-
-unfoldable mutual
-  pub depth : Tree → ℕ
-  depth (plain p) = 1
-  depth (array xs ts) = suc (max (depthPairs xs) (depthTrees ts))
-  depth (object class xs ys) = suc (max (depthPairs xs) (depthPairs ys))
-  depth (objectVector fixed class ts) = suc (depthTrees ts)
-  depth (dictionary weak es) = suc (depthEntries es)
-
-  pub depthTrees : Trees → ℕ
-  depthTrees nil = 0
-  depthTrees (cons t ts) = max (depth t) (depthTrees ts)
-
-  pub depthPairs : Pairs → ℕ
-  depthPairs noPairs = 0
-  depthPairs (pair x t ps) = max (depth t) (depthPairs ps)
-
-  pub depthEntries : Entries → ℕ
-  depthEntries noEntries = 0
-  depthEntries (entry a b es) = max (depth a) (max (depth b) (depthEntries es))
 
 abbrev pub depthIn : Piece → ℕ
 depthIn (own bs) = 0

@@ -24,6 +24,7 @@ use Rattle.format.proofs.Cuts.{joined}
 use Rattle.format.proofs.Along.{Good, waits, finishes, declines, takes}
 use Rattle.format.proofs.Shows.{Shows, shows-run, shows-begin, taken-run, memory-of}
 use Rattle.format.specs.Refusals as refusals
+pub use Rattle.format.specs.Claims.{takenIn, untaken, answerIn, fedBy, fedPieces, tally, untook, endBy, endRead, unread}
 
 -- ---- bytes after bytes, whatever the numbers and the loans
 
@@ -58,38 +59,6 @@ taken-most h (b ∷ bs) =
 
 abbrev pub heldIn : Fed → Held
 heldIn (fed a n m) = held n m
-
-abbrev pub answerIn : Fed → Answer
-answerIn (fed a n m) = a
-
--- the bytes that an answer says were taken, and the answer without them
-abbrev pub takenIn : Answer → ℕ
-takenIn (Waiting n) = n
-takenIn (Finished rows bytes n) = n
-takenIn (Refused number told place n) = n
-
-abbrev pub untaken : Answer → Answer
-untaken (Waiting n) = Waiting 0
-untaken (Finished rows bytes n) = Finished rows bytes 0
-untaken (Refused number told place n) = Refused number told place 0
-
-abbrev pub untook : Fed → Fed
-untook (fed a n m) = fed (untaken a) n m
-
--- the next call feeds a piece; all the pieces; the bytes taken by all of them; the end is declared
-abbrev pub fedBy : Fed → List ℕ → Fed
-fedBy (fed a n m) piece = feedCall n m piece
-
-abbrev pub fedPieces : Fed → List (List ℕ) → Fed
-fedPieces f [] = f
-fedPieces f (piece ∷ pieces) = fedPieces (fedBy f piece) pieces
-
-abbrev pub tally : Fed → List (List ℕ) → ℕ
-tally f [] = 0
-tally f (piece ∷ pieces) = takenIn (answerIn (fedBy f piece)) + tally (fedBy f piece) pieces
-
-abbrev pub endBy : Fed → Fed
-endBy (fed a n m) = endCall n m
 
 fed-by : (f : Fed) (piece : List ℕ) → fedBy f piece ≡ answered (runHeld (heldIn f) piece) (takenBy (heldIn f) piece)
 unfolding feedCall
@@ -165,13 +134,6 @@ tally-length f pieces = rw (tally-taken f pieces) (taken-most (heldIn f) (joined
 
 -- ---- the end
 
--- an answer with the loans, without the bytes taken
-abbrev pub endRead : Fed → Read
-endRead (fed a n m) = read (untaken a) m
-
-abbrev pub unread : Read → Read
-unread (read a m) = read (untaken a) m
-
 -- what waits is refused by 2
 end-wait : (n : Numbers) (at : ℕ) (k : Memory) → endRead (answered (afterStep n (over (refused 2 0 at (zeroed k)))) 0) ≡ read (Refused 2 0 at 0) (zeroed k)
 unfolding afterStep numbersOf stateOf refusals.sayable
@@ -232,6 +194,10 @@ taken-calls m pieces rows bytes taken k o e =
 pub feed-nothing : (n : Numbers) (m : Memory) → feedCall n m [] ≡ fed (answerOf (stateOf n m) 0) n m
 unfolding feedCall runHeld takenBy
 feed-nothing n m = refl
+
+-- an unbegun state says so to no bytes too, and keeps its loans
+pub unbegun-nothing : (n : Numbers) (m : Memory) → stateOf n m ≡ none m → feedCall n m [] ≡ fed (Refused refusals.lost 0 0 0) n m
+unbegun-nothing n m e = feed-nothing n m ∙ ap (λ (s : State). fed (answerOf s 0) n m) e
 
 -- a state with other loans
 abbrev relentEnd : Ended → Memory → Ended

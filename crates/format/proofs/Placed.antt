@@ -12,30 +12,13 @@ use Rattle.format.specs.Reading.{finished, refused}
 use Rattle.format.proofs.Reasons.{Lacks, noRow, noStore, noString, noObject, noTrait, noName, reasons-act}
 use Rattle.format.proofs.Reasons as reasons
 use Rattle.format.specs.Refusals as refusals
-
--- what byte b, the last of p bytes, may be refused with: number, told value and place
-pub data Refusal (b p : ℕ) : ℕ → ℕ → ℕ → Type 0 where
-  -- no marker
-  unknown : {place : ℕ} → 0x11 < b → place ≡ p → Refusal b p refusals.badMarker b place
-  -- a reference to what isn't there; to what isn't finished
-  absent : {i place : ℕ} → place ≡ p → Refusal b p refusals.noEntry i place
-  unfinished : {i place : ℕ} → place ≡ p → Refusal b p refusals.openObject i place
-  -- an externalizable object; a date of these bits; a text
-  external : {place : ℕ} → place ≡ p → Refusal b p refusals.externalizable 0 place
-  undated : {bits place : ℕ} → place ≡ p → Refusal b p refusals.badDate bits place
-  malformed : {place : ℕ} → place ≡ p → Refusal b p refusals.badText 0 place
-  -- too many are open
-  deep : {place : ℕ} → place ≡ p → Refusal b p refusals.tooDeep 0 place
-  -- loan 1 to 6 is full
-  full : {loan place : ℕ} → T (leb loanRows loan && leb loan loanNames) → place ≡ p → Refusal b p refusals.noRoom loan place
-  -- the state doesn't hold together
-  astrays : Refusal b p refusals.lost 0 0
+pub use Rattle.format.specs.Byte.{RefusedBy, unknown, absent, unfinished, external, undated, malformed, deep, full, astrays}
 
 -- a state after it
 pub data Placed (b p : ℕ) : State → Type 0 where
   waits : {x : Mode} {ts : List Frame} {c : Cursor} {m : Memory} → c .at ≡ p → Placed b p (wait x ts c m)
   finishes : {c : Cursor} {m : Memory} → c .at ≡ p → Placed b p (over (finished c m))
-  declines : {n told place : ℕ} {m : Memory} (k : Memory) → Refusal b p n told place → m ≡ zeroed k → Placed b p (over (refused n told place m))
+  declines : {n told place : ℕ} {m : Memory} (k : Memory) → RefusedBy b p n told place → m ≡ zeroed k → Placed b p (over (refused n told place m))
 
 -- ---- the reasons left out
 
@@ -49,7 +32,7 @@ lacks-loan (noTrait h i l) = tt
 lacks-loan (noName h i l) = tt
 
 module _ {D : Type 0} {E : ℕ → Type 0} (loans : (loan : ℕ) → E loan → T (leb loanRows loan && leb loan loanNames)) {b p : ℕ} where
-  refusal-of : {n told place : ℕ} → reasons.Refusal D E b p n told place → Refusal b p n told place
+  refusal-of : {n told place : ℕ} → reasons.Refusal D E b p n told place → RefusedBy b p n told place
   refusal-of (reasons.unknown h e) = unknown h e
   refusal-of (reasons.absent e) = absent e
   refusal-of (reasons.unfinished e) = unfinished e

@@ -40,74 +40,10 @@ use Rattle.format.specs.Step.{had, textDone, reservedFor, stringSized, r
 use Rattle.format.specs.Step.{flagDone, rawGrown, begun, shown, onPart, act}
 use Rattle.format.specs.Reading.{finished, refused}
 use Rattle.format.specs.Refusals as refusals
+pub use Rattle.format.specs.Limits.{asked, NewSize, NewShape, Enters, IsName, EndsTrait, Closes, byText, byWord, Lacks, noRow, noStore, noString, noObject}
+pub use Rattle.format.specs.Limits.{noTrait, noName}
 
 -- ---- what a byte asks of the loans
-
--- the bytes of the store that a size word asks for, once it is whole
-abbrev pub asked : Word → Size → ℕ
-asked (integerWord row) z = 0
-asked (objectWord row) z = 0
-asked (sizeWord row body) (Old i) = 0
-asked (sizeWord row xml) (New n) = n
-asked (sizeWord row date) (New n) = 0
-asked (sizeWord row array) (New n) = 0
-asked (sizeWord row bytes) (New n) = n
-asked (sizeWord row (raw w)) (New n) = n * widthOf w
-asked (sizeWord row objects) (New n) = 0
-asked (sizeWord row dictionary) (New n) = 0
-asked (textWord u) (Old i) = 0
-asked (textWord u) (New n) = n
-
--- a size that is no reference; an object word that is none
-abbrev pub NewSize : Size → Type 0
-NewSize (Old i) = ⊥
-NewSize (New n) = Unit
-
-abbrev pub NewShape : Shape → Type 0
-NewShape (Object i) = ⊥
-NewShape (Known i) = Unit
-NewShape External = Unit
-NewShape (Inline n y) = Unit
-
--- a whole word after which a row enters the objects
-abbrev pub Enters : Word → ℕ → Type 0
-Enters (integerWord row) w = ⊥
-Enters (objectWord row) w = NewShape (shapeOf w)
-Enters (sizeWord row body) w = NewSize (sizeOf w)
-Enters (textWord u) w = ⊥
-
--- a string that is a field's name; one after which a trait is whole: its class, where it has no names, or the last of them
-abbrev pub IsName : Use → Type 0
-IsName (forString row) = ⊥
-IsName (forKey p) = ⊥
-IsName (forClass row n y) = ⊥
-IsName forExternal = ⊥
-IsName (forName row t n) = Unit
-IsName (forVector row n) = ⊥
-
-abbrev pub EndsTrait : Use → Type 0
-EndsTrait (forString row) = ⊥
-EndsTrait (forKey p) = ⊥
-EndsTrait (forClass row n y) = n ≡ 0
-EndsTrait forExternal = ⊥
-EndsTrait (forName row t n) = n ≡ 0
-EndsTrait (forVector row n) = ⊥
-
--- byte b ends this string: the last byte of its text, or of its word where that is a reference or says that it is empty
-pub data Closes (b : ℕ) : Mode → Use → Type 0 where
-  byText : {u : Use} {s : Span} {test : ℕ} → Closes b (atText (tableText u) s zero test) u
-  byWord : {u : Use} {left part w : ℕ} → partOf left part b ≡ Whole w → asked (textWord u) (sizeOf w) ≡ 0 → Closes b (atWord (textWord u) left part) u
-
--- byte b, for a mode, asks for more of a loan of m than is left of it: for an entry, and all are used; of the store for bytes
-pub data Lacks (c : Cursor) (m : Memory) (b : ℕ) : Mode → ℕ → Type 0 where
-  noRow : {k : Key} → b ≤ 0x11 → length (m .rows) / rowWidth ≤ c .rows → Lacks c m b (atMarker k) loanRows
-  noStore : {w : Word} {left part n : ℕ} → partOf left part b ≡ Whole n → length (m .store) < c .store + asked w (sizeOf n)
-      → Lacks c m b (atWord w left part) loanStore
-  noString : {u : Use} {s : Span} {test : ℕ} → length (m .strings) / spanWidth ≤ c .strings → Lacks c m b (atText (tableText u) s zero test) loanStrings
-  noObject : {w : Word} {left part n : ℕ} → partOf left part b ≡ Whole n → Enters w n → length (m .objects) ≤ c .objects
-      → Lacks c m b (atWord w left part) loanObjects
-  noTrait : {x : Mode} {u : Use} → Closes b x u → EndsTrait u → length (m .traits) / traitWidth ≤ c .traits → Lacks c m b x loanTraits
-  noName : {x : Mode} {u : Use} → Closes b x u → IsName u → length (m .names) / spanWidth ≤ c .names → Lacks c m b x loanNames
 
 -- byte b is a marker where as many values are open as can be
 abbrev pub Deep : Mode → ℕ → List Frame → Type 0

@@ -23,7 +23,7 @@ use Rattle.format.specs.Standard.{encode, encodeTrees, encodePairs, enco
 use Rattle.format.proofs.Tests.{flag-back}
 use Rattle.format.proofs.Fuel.{value-fuel, standard-fuel}
 use Rattle.format.proofs.Words.{dynamicOf, trait-shape, trait-below}
-use Rattle.format.proofs.Writable.{IsText, IsKey, IsType, IfGiven, Writable, WritableTrees, WritablePairs, WritableMembers, WritableEntries}
+use Rattle.format.specs.Writable.{IsText, IsKey, IsType, IfGiven, Writable, WritableTrees, WritablePairs, WritableMembers, WritableEntries}
 use Rattle.format.proofs.Back.{Reads, reads-ret, reads-bind, reads-last, reads-opened, reads-change, reads-byte, reads-word, reads-text}
 use Rattle.format.proofs.Back.{reads-empty, reads-marked, reads-sized, reads-plain, empty-text}
 

@@ -24,11 +24,7 @@ use Rattle.format.proofs.Lands.{null, boolean, integer, double, date, s
 use Rattle.format.proofs.Lands.{bytes, raw, array, object, vector, dictionary, reference, Sound, run-up}
 use Rattle.rows.specs.Memory.{rowWidth}
 use Rattle.rows.specs.Memory.{colBodySize, colCount, colCount2}
-
--- the test passes, or the least faulty row can't be written for its date
-pub data Passes (R : List ℕ) : Tested → Type 0 where
-  passes : Passes R fine
-  late : {i : ℕ} → col R i colKind ≡ kindDate → 2 ^ 53 < col R i colNumber → Passes R (faulty 14 i)
+pub use Rattle.format.specs.Claims.{Passes, passes, late}
 
 -- ---- a row by itself
 

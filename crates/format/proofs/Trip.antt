@@ -19,21 +19,14 @@ use Rattle.format.proofs.Meaning.{usedRows, Accord, reads, refuses, lim
 use Rattle.format.proofs.Limits.{limit-most}
 use Rattle.format.proofs.Parts.{depth}
 use Rattle.format.proofs.Holds.{limit}
-use Rattle.format.proofs.Writable.{Writable}
+use Rattle.format.specs.Writable.{Writable}
 use Rattle.format.proofs.Round.{standard-round}
 use Rattle.format.proofs.Unfolded.{unfolded-fits}
 use Rattle.format.proofs.Finishes.{Unlimited, reading-unlimited}
 use Rattle.format.proofs.Writes.{accepted, reported}
 use Rattle.format.proofs.Again.{Wide}
 use Rattle.format.specs.Refusals as refusals
-
--- a reading finished with n bytes taken, and its rows unfold to t
-pub record Returns (e : Ended) (n : ℕ) (t : Tree) : Type 0 where
-  pub cursor : Cursor
-  pub memory : Memory
-  pub finishes : e ≡ finished cursor memory
-  pub takes : cursor .at ≡ n
-  pub unfolds : unfolded (usedRows cursor memory) (memory .store) 0 ≡ t
+pub use Rattle.format.specs.Claims.{Returns}
 
 is-limit : (n : ℕ) → refusals.tooDeep ≤ n → n ≤ refusals.tooLong → limit n ≡ true
 is-limit n lo hi =

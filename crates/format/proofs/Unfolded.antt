@@ -22,8 +22,8 @@ use Rattle.format.specs.Unfold.{rowsIn, col, part, bodyOf, keyText, clas
 use Rattle.format.specs.Unfold.{unfolded}
 use Rattle.format.specs.RowTest.{hasClass, signedFits, valueFits, children, fullKey, gives, given, numberWritable, bodyWritable, tested, fine}
 use Rattle.format.proofs.Tests.{both, clash}
-use Rattle.format.proofs.Writable.{IsText, IsKey, IsType, IfGiven, IsRaw, Writable, WritableTrees, WritablePairs, WritableMembers}
-use Rattle.format.proofs.Writable.{WritableEntries}
+use Rattle.format.specs.Writable.{IsText, IsKey, IsType, IfGiven, IsRaw, Writable, WritableTrees, WritablePairs, WritableMembers}
+use Rattle.format.specs.Writable.{WritableEntries}
 use Rattle.format.proofs.Tested.{Formed, Row, tested-rows, part-short, key-length, body-length, class-mark}
 use Rattle.format.proofs.Tested.{Walk, done, next, walk-start, walk-after, walk-long, home-row, kind-is}
 use Rattle.format.proofs.Loans.{lent}

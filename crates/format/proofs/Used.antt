@@ -13,72 +13,11 @@ use Rattle.format.specs.Decide.{classOf}
 use Rattle.format.specs.Step.{assoc, dynamics, Use, forString, forKey, forClass, forExternal, forName, forVector, Text, xmlText, tableText, rawRow}
 use Rattle.format.specs.Step.{Word, integerWord, objectWord, sizeWord, textWord, Number, doubleBits, dateBits, Flag, rawFlag, objectsFlag, dictionaryFlag}
 use Rattle.format.specs.Step.{Mode, atMarker, atWord, atNumber, atFlag, atText, atRaw, astray}
-
--- used counts lie within loans of these lengths
-abbrev pub Counts : Lent → Cursor → Type 0
-Counts l c =
-    (((((c .rows ≤ l .rows / rowWidth) × (c .store ≤ l .store)) × (c .strings ≤ l .strings / spanWidth)) × (c .objects ≤ l .objects))
-    × (c .traits ≤ l .traits / traitWidth)) × (c .names ≤ l .names / spanWidth)
-
--- a row is used; a span; a key's span, if its mark isn't 0
-abbrev pub RowIn : ℕ → Cursor → Type 0
-RowIn row c = row < c .rows
-
-abbrev pub SpanIn : Span → Cursor → Type 0
-SpanIn s c = s .begin + s .size ≤ c .store
-
-abbrev pub KeyIn : Key → Cursor → Type 0
-KeyIn k c = 0 < k .mark → SpanIn (span (k .begin) (k .size)) c
+pub use Rattle.format.specs.Together.{Counts, RowIn, SpanIn, KeyIn, BodyIn, PartIn, UseIn, TextIn, WordIn, NumberIn, FlagIn, ModeIn, PairsUsed, PairsIn}
 
 -- a span is used that has room for so many bytes
 abbrev pub Roomy : ℕ → Span → Cursor → Type 0
 Roomy n s c = SpanIn s c × (n ≤ s .size)
-
--- a span is used that has more room than is left to fill
-abbrev pub BodyIn : Span → ℕ → Cursor → Type 0
-BodyIn s left c = SpanIn s c × (left < s .size)
-
--- so many bytes may come after the next one, and those before it gave no more than they can
-abbrev pub PartIn : ℕ → ℕ → ℕ → ℕ → Type 0
-PartIn most bits left part = (left ≤ most) × (part < 2 ^ (bits * (most - left)))
-
--- what a mode holds lies in what is used
-abbrev pub UseIn : Use → Cursor → Type 0
-UseIn (forString row) c = RowIn row c
-UseIn (forKey (assoc row n done)) c = RowIn row c
-UseIn (forKey (dynamics row done)) c = RowIn row c
-UseIn (forClass row n y) c = RowIn row c
-UseIn forExternal c = Unit
-UseIn (forName row t n) c = (RowIn row c × SpanIn (classOf t) c) × (t .first ≤ c .names)
-UseIn (forVector row n) c = RowIn row c
-
-abbrev pub TextIn : Text → Cursor → Type 0
-TextIn (xmlText row) c = RowIn row c
-TextIn (tableText u) c = UseIn u c
-
-abbrev pub WordIn : Word → Cursor → Type 0
-WordIn (integerWord row) c = RowIn row c
-WordIn (objectWord row) c = RowIn row c
-WordIn (sizeWord row body) c = RowIn row c
-WordIn (textWord u) c = UseIn u c
-
-abbrev pub NumberIn : Number → Cursor → Type 0
-NumberIn (doubleBits row) c = RowIn row c
-NumberIn (dateBits row) c = RowIn row c
-
-abbrev pub FlagIn : Flag → Cursor → Type 0
-FlagIn (rawFlag row w s) c = RowIn row c × SpanIn s c
-FlagIn (objectsFlag row n) c = RowIn row c
-FlagIn (dictionaryFlag row n) c = RowIn row c
-
-abbrev pub ModeIn : Mode → Cursor → Type 0
-ModeIn (atMarker k) c = KeyIn k c
-ModeIn (atWord w left part) c = WordIn w c × PartIn wordMore wordBits left part
-ModeIn (atNumber d left part) c = NumberIn d c × PartIn numberMore numberBits left part
-ModeIn (atFlag f) c = FlagIn f c
-ModeIn (atText x s left test) c = (TextIn x c × BodyIn s left c) × (test ≤ textBroken)
-ModeIn (atRaw r s left) c = RowIn (rawRow r) c × BodyIn s left c
-ModeIn astray c = ⊥
 
 -- the same in two: what it works with; and its part of a number, which only bytes keep small
 abbrev pub WorkIn : Mode → Cursor → Type 0
@@ -117,29 +56,6 @@ mode-parts (atFlag f) c h = (h, tt)
 mode-parts (atText x s left test) c h = (h, tt)
 mode-parts (atRaw r s left) c h = (h, tt)
 mode-parts astray c h = (h, tt)
-
--- pairs done are below the used rows
-abbrev pub PairsUsed : Use → Cursor → Type 0
-PairsUsed (forString row) c = Unit
-PairsUsed (forKey (assoc row n done)) c = done < c .rows
-PairsUsed (forKey (dynamics row done)) c = done < c .rows
-PairsUsed (forClass row n y) c = Unit
-PairsUsed forExternal c = Unit
-PairsUsed (forName row t n) c = Unit
-PairsUsed (forVector row n) c = Unit
-
-abbrev pub PairsIn : Mode → Cursor → Type 0
-PairsIn (atMarker k) c = Unit
-PairsIn (atWord (integerWord row) left part) c = Unit
-PairsIn (atWord (objectWord row) left part) c = Unit
-PairsIn (atWord (sizeWord row body) left part) c = Unit
-PairsIn (atWord (textWord u) left part) c = PairsUsed u c
-PairsIn (atNumber d left part) c = Unit
-PairsIn (atFlag f) c = Unit
-PairsIn (atText (xmlText row) s left test) c = Unit
-PairsIn (atText (tableText u) s left test) c = PairsUsed u c
-PairsIn (atRaw r s left) c = Unit
-PairsIn astray c = Unit
 
 -- ---- more is used
 

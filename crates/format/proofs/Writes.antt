@@ -17,29 +17,7 @@ use Rattle.format.specs.Writing.{streamBytes, isDeep, emit, Wrote, writt
 use Rattle.format.proofs.Tests.{clash}
 use Rattle.format.proofs.Parts.{depth}
 use Rattle.format.proofs.Emit.{begins-prefix, emit-whole, emit-deep, Nested, nested-deep, emit-stop}
-
--- a value of t with n values open around it stands behind the bytes x, and none stands behind fewer
-pub record First (n : ℕ) (t : Tree) (x : List ℕ) : Type 0 where
-  pub value : Tree
-  pub nested : Nested n t value x
-  pub first : (u : Tree) (y : List ℕ) → Nested n t u y → length x ≤ length y
-
--- the loans and the rows are not refused
-pub record Passes (R B : List ℕ) : Type 0 where
-  pub lent : faultOf (memory R B [] [] [] []) ≡ 0
-  pub rows : tested R B ≡ fine
-
--- how a writing of the tree t ends
-pub data Ends (t : Tree) (out : List ℕ) : Wrote → Type 0 where
-  whole : depth t ≤ openLimit → length (encode t) ≤ length out → Ends t out (written (length (encode t)) (encode t ++ drop (length (encode t)) out))
-  full : depth t ≤ openLimit → length out < length (encode t) → Ends t out (unwritten 10 7 (length out) out)
-  tooDeep : (x : List ℕ) → First openLimit t x → length x ≤ length out → Ends t out (unwritten 9 0 (length x) out)
-  fullBefore : (x : List ℕ) → First openLimit t x → length out < length x → Ends t out (unwritten 10 7 (length out) out)
-
-pub data Outcome (R B out : List ℕ) : Wrote → Type 0 where
-  fault : (n : ℕ) → faultOf (memory R B [] [] [] []) ≡ suc n → Outcome R B out (unwritten 1 (suc n) 0 out)
-  unfit : (n row : ℕ) → faultOf (memory R B [] [] [] []) ≡ 0 → tested R B ≡ faulty n row → Outcome R B out (unwritten n row 0 out)
-  passed : {w : Wrote} → Passes R B → Ends (unfolded R B 0) out w → Outcome R B out w
+pub use Rattle.format.specs.Endings.{First, Unrefused, Ends, whole, full, tooDeep, fullBefore, Outcome, fault, unfit, passed, Accepted}
 
 -- ---- the end of a tree's writing
 
@@ -127,16 +105,8 @@ module _ (R B out : List ℕ) where
 
 -- ---- an accepted writing, and a refused one
 
--- n bytes were written, and P is the output after it
-pub record Accepted (R B out : List ℕ) (n : ℕ) (P : List ℕ) : Type 0 where
-  pub passes : Passes R B
-  pub shallow : depth (unfolded R B 0) ≤ openLimit
-  pub size : n ≡ length (encode (unfolded R B 0))
-  pub fits : n ≤ length out
-  pub output : P ≡ encode (unfolded R B 0) ++ drop n out
-
 module _ (R B out P : List ℕ) where
-  end-accepted : {w : Wrote} (n : ℕ) → Passes R B → Ends (unfolded R B 0) out w → w ≡ written n P → Accepted R B out n P
+  end-accepted : {w : Wrote} (n : ℕ) → Unrefused R B → Ends (unfolded R B 0) out w → w ≡ written n P → Accepted R B out n P
   end-accepted n p (whole d l) e =
       let m : length (encode (unfolded R B 0)) ≡ n = cc in
       let q : encode (unfolded R B 0) ++ drop (length (encode (unfolded R B 0))) out ≡ P = cc in

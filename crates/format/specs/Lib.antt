@@ -13,3 +13,9 @@ pub mod Writing
 pub mod Text
 pub mod Holds
 pub mod Answers
+pub mod Writable
+pub mod Byte
+pub mod Claims
+pub mod Limits
+pub mod Together
+pub mod Endings

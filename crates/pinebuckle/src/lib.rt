@@ -21,11 +21,12 @@ pub use rows::kinds;
 pub use rows::loans;
 ghost use Rattle.rows.specs.Memory.{atEntry, atExit, Memory};
 ghost use mathlib.Core.Path.{_≡_};
-ghost use Rattle.format.specs.Answers.{fed, beginCall, feedCall, endCall, read, readCall, output, writeCall, textCall};
-ghost use Rattle.format.specs.Text.{textSpan};
+ghost use Rattle.format.specs.Answers.{fed, beginCall, feedCall, endCall};
 ghost use Rattle.pieces.specs.States.{numbers};
 ghost use Rattle.feed.specs.Calls.{stateNumbers};
-ghost use Rattle.pinebuckle.specs.Coding.{sayWaiting, sayFinished, sayRefused, code, codeOf, passed, codedFed, left, codedRead, put, codedWrite, spanCode};
+ghost use Rattle.pinebuckle.specs.Coding.{sayWaiting, sayFinished, sayRefused, code, codeOf, passed, codedFed};
+ghost use Rattle.pinebuckle.specs.Contracts.{BeginContract, FeedContract, EndContract, ReadContract, WriteContract, TextContract};
+ghost use Rattle.pinebuckle.specs.Contracts.{CBeginContract, CFeedContract, CEndContract, CReadContract, CWriteContract, CTextContract};
 
 // Begins a reading: it waits for the first byte, or a loan is wrong.
 pub fn begin(
@@ -37,8 +38,7 @@ pub fn begin(
     traits: &mut [usize],
     names: &mut [usize],
 ) -> Answer
-    ensures { λ r. ⌜ fed r (stateNumbers (now (state .exit))) (atExit rows store strings objects traits names)
-        ≡ beginCall (atEntry rows store strings objects traits names) ⌝ }
+    ensures { λ r. ⌜ BeginContract r (now (state .exit)) (atExit rows store strings objects traits names) (atEntry rows store strings objects traits names) ⌝ }
 {
     let out = feed::begun(rows, store, strings, objects, traits, names);
     *state = out.state;
@@ -56,8 +56,8 @@ pub fn feed(
     names: &mut [usize],
     piece: &[u8],
 ) -> Answer
-    ensures { λ r. ⌜ fed r (stateNumbers (now (state .exit))) (atExit rows store strings objects traits names)
-        ≡ feedCall (stateNumbers (now (state .entry))) (atEntry rows store strings objects traits names) (now (piece .entry)) ⌝ }
+    ensures { λ r. ⌜ FeedContract r (now (state .exit)) (atExit rows store strings objects traits names)
+        (now (state .entry)) (atEntry rows store strings objects traits names) (now (piece .entry)) ⌝ }
 {
     let out = feed::fed_in(
         state.head,
@@ -84,8 +84,8 @@ pub fn end(
     traits: &mut [usize],
     names: &mut [usize],
 ) -> Answer
-    ensures { λ r. ⌜ fed r (stateNumbers (now (state .exit))) (atExit rows store strings objects traits names)
-        ≡ endCall (stateNumbers (now (state .entry))) (atEntry rows store strings objects traits names) ⌝ }
+    ensures { λ r. ⌜ EndContract r (now (state .exit)) (atExit rows store strings objects traits names)
+        (now (state .entry)) (atEntry rows store strings objects traits names) ⌝ }
 {
     let out = feed::ended(*state, rows, store, strings, objects, traits, names);
     *state = out.state;
@@ -102,21 +102,21 @@ pub fn read(
     names: &mut [usize],
     message: &[u8],
 ) -> Answer
-    ensures { λ r. ⌜ read r (atExit rows store strings objects traits names) ≡ readCall (atEntry rows store strings objects traits names) (now (message .entry)) ⌝ }
+    ensures { λ r. ⌜ ReadContract r (atExit rows store strings objects traits names) (atEntry rows store strings objects traits names) (now (message .entry)) ⌝ }
 {
     whole::read(rows, store, strings, objects, traits, names, message)
 }
 
 // Writes the tree of row 0 into `out`.
 pub fn write(rows: &[usize], store: &[u8], out: &mut [u8]) -> Written
-    ensures { λ r. ⌜ output r (now (out .exit)) ≡ writeCall (now (rows .entry)) (now (store .entry)) (now (out .entry)) ⌝ }
+    ensures { λ r. ⌜ WriteContract r (now (out .exit)) (now (rows .entry)) (now (store .entry)) (now (out .entry)) ⌝ }
 {
     writer::write(rows, store, out)
 }
 
 // The text of a row: a part of the store, or of the default where the row has none.
 pub fn text<'a>(rows: &'a [usize], store: &'a [u8], row: usize, default: &'a [u8]) -> &'a [u8]
-    ensures { λ r. ⌜ now r ≡ textCall (now (rows .entry)) (now (store .entry)) row (now (default .entry)) ⌝ }
+    ensures { λ r. ⌜ TextContract (now r) (now (rows .entry)) (now (store .entry)) row (now (default .entry)) ⌝ }
 {
     text::text(rows, store, row, default)
 }
@@ -288,8 +288,7 @@ pub extern "C" fn pb_begin(
     traits: &mut [usize],
     names: &mut [usize],
 ) -> Coded
-    ensures { λ r. ⌜ passed r (stateNumbers (now (state .exit))) (atExit rows store strings objects traits names)
-        ≡ codedFed (beginCall (atEntry rows store strings objects traits names)) ⌝ }
+    ensures { λ r. ⌜ CBeginContract r (now (state .exit)) (atExit rows store strings objects traits names) (atEntry rows store strings objects traits names) ⌝ }
 {
     let out = begun_coded(rows, store, strings, objects, traits, names);
     *state = out.state;
@@ -308,8 +307,8 @@ pub extern "C" fn pb_feed(
     names: &mut [usize],
     piece: &[u8],
 ) -> Coded
-    ensures { λ r. ⌜ passed r (stateNumbers (now (state .exit))) (atExit rows store strings objects traits names)
-        ≡ codedFed (feedCall (stateNumbers (now (state .entry))) (atEntry rows store strings objects traits names) (now (piece .entry))) ⌝ }
+    ensures { λ r. ⌜ CFeedContract r (now (state .exit)) (atExit rows store strings objects traits names)
+        (now (state .entry)) (atEntry rows store strings objects traits names) (now (piece .entry)) ⌝ }
 {
     let out = fed_in_coded(
         state.head,
@@ -352,8 +351,8 @@ pub extern "C" fn pb_end(
     traits: &mut [usize],
     names: &mut [usize],
 ) -> Coded
-    ensures { λ r. ⌜ passed r (stateNumbers (now (state .exit))) (atExit rows store strings objects traits names)
-        ≡ codedFed (endCall (stateNumbers (now (state .entry))) (atEntry rows store strings objects traits names)) ⌝ }
+    ensures { λ r. ⌜ CEndContract r (now (state .exit)) (atExit rows store strings objects traits names)
+        (now (state .entry)) (atEntry rows store strings objects traits names) ⌝ }
 {
     let out = ended_coded(*state, rows, store, strings, objects, traits, names);
     *state = out.state;
@@ -371,8 +370,7 @@ pub extern "C" fn pb_read(
     names: &mut [usize],
     message: &[u8],
 ) -> Coded
-    ensures { λ x. ⌜ left x (atExit rows store strings objects traits names)
-        ≡ codedRead (readCall (atEntry rows store strings objects traits names) (now (message .entry))) ⌝ }
+    ensures { λ x. ⌜ CReadContract x (atExit rows store strings objects traits names) (atEntry rows store strings objects traits names) (now (message .entry)) ⌝ }
 {
     code_of(read(rows, store, strings, objects, traits, names, message))
 }
@@ -380,7 +378,7 @@ pub extern "C" fn pb_read(
 // `write`.
 #[no_mangle]
 pub extern "C" fn pb_write(rows: &[usize], store: &[u8], out: &mut [u8]) -> Coded
-    ensures { λ x. ⌜ put x (now (out .exit)) ≡ codedWrite (writeCall (now (rows .entry)) (now (store .entry)) (now (out .entry))) ⌝ }
+    ensures { λ x. ⌜ CWriteContract x (now (out .exit)) (now (rows .entry)) (now (store .entry)) (now (out .entry)) ⌝ }
 {
     let a = write(rows, store, out);
     match a {
@@ -392,7 +390,7 @@ pub extern "C" fn pb_write(rows: &[usize], store: &[u8], out: &mut [u8]) -> Code
 // Where the text of a row stands in the store.
 #[no_mangle]
 pub extern "C" fn pb_text(rows: &[usize], store: &[u8], row: usize) -> Place
-    ensures { λ x. ⌜ x ≡ spanCode (textSpan (now (rows .entry)) (now (store .entry)) row) ⌝ }
+    ensures { λ x. ⌜ CTextContract x (now (rows .entry)) (now (store .entry)) row ⌝ }
 {
     let a = text::span(rows, store, row);
     match a {

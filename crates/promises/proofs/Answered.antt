@@ -23,31 +23,21 @@ use Rattle.format.specs.Numbers.{soundStep}
 use Rattle.format.specs.Answers.{fed, answerOf, answered, beginCall, runHeld, costFrom, stateIn, takenBy, feedCall, endOf, endCall}
 use Rattle.format.proofs.Tests.{on-bool, is-true, clash}
 use Rattle.format.proofs.Along.{Able}
-use Rattle.format.proofs.Pieces.{answerIn, takenIn, untaken, taken-length, run-still, taken-still, feed-nothing, feed-ended, end-ended}
+use Rattle.format.proofs.Pieces.{answerIn, takenIn, untaken, taken-length, run-still, taken-still, feed-ended, end-ended, feed-nothing, unbegun-nothing}
 use Rattle.format.proofs.Shows.{memoryIn, lengths-run, memory-of, good-sound, good-waits}
-use Rattle.format.proofs.Placed.{Refusal, unknown, absent, unfinished, external, undated, malformed, deep, full, astrays, Placed, placed-act}
+use Rattle.format.proofs.Placed.{RefusedBy, unknown, absent, unfinished, external, undated, malformed, deep, full, astrays, Placed, placed-act}
 use Rattle.format.proofs.Placed as placed
 use Rattle.promises.proofs.Stands.{Stands, waits, finishes, faulty, declines, passes, forgets, placeOf, Any, every-any, every-octet}
 use Rattle.promises.proofs.Stands.{stands-going, on-finished, on-refused, able-act, able-finishes, able-says, long-said, loan-said, fault-most}
-use Rattle.promises.proofs.Named.{Going, waiting, unbegun, FeedLeaves, EndLeaves, repeated, asked, new}
+use Rattle.format.specs.Claims.{Going, waiting, unbegun, FeedLeaves, EndLeaves, repeated, asked, new}
 use Rattle.promises.proofs.Counted.{Waits, waits-all}
 use Rattle.format.specs.Refusals as refusals
 use Rattle.format.specs.Codes.{statusWaiting, statusRefused}
 use Rattle.format.specs.Numbers.{frameWidth}
+pub use Rattle.format.specs.Claims.{firstNumbers, refusedNumbers, lostNumbers}
+pub use Rattle.format.specs.Claims.{Refuses, byte, past, stray, Feeds, awaits, completes, rejects}
 
 -- ---- begin
-
--- the state that begin leaves: waiting for a marker, nothing taken and nothing used
-abbrev pub firstNumbers : Lent → Numbers
-firstNumbers l = record { head = head statusWaiting 0 0 0 l fresh 0 (workOf (atMarker noKey)); frames = replicate (openLimit * frameWidth) 0 }
-
--- a refused state
-abbrev pub refusedNumbers : ℕ → ℕ → ℕ → Lent → List ℕ → Numbers
-refusedNumbers n told place l frames = record { head = head statusRefused n told place l fresh 0 noWork; frames = frames }
-
--- one that didn't hold together
-abbrev pub lostNumbers : Numbers → Numbers
-lostNumbers n = refusedNumbers refusals.lost 0 0 (n .head .lent) (n .frames)
 
 -- it waits, with loans zero
 pub begin-waits : (m : Memory) → faultOf m ≡ 0 → beginCall m ≡ fed (Waiting 0) (firstNumbers (lentOf m)) (zeroed m)
@@ -63,19 +53,6 @@ begin-refuses m loan e =
     rw (e, is-true (refusals.sayable refusals.badLoan (suc loan) 0) (loan-said (suc loan) (omega arith) l))
 
 -- ---- feed on what hasn't ended
-
--- a new refusal after p bytes: the byte's; or past the limit
-pub data Refuses (piece : List ℕ) (p : ℕ) : ℕ → ℕ → ℕ → Type 0 where
-  byte : {n told place : ℕ} (b : ℕ) → (Bytes piece → b < 2 ^ 8) → Refusal b p n told place → place ≤ messageLimit → Refuses piece p n told place
-  past : {place : ℕ} → place ≡ messageLimit → place ≡ p → Refuses piece p refusals.tooLong 0 place
-  -- what isn't a byte made a number that no reading tells
-  stray : (Bytes piece → ⊥) → Refuses piece p refusals.lost 0 0
-
--- an answer to a piece, from a state at place p
-pub data Feeds (p : ℕ) (piece : List ℕ) : Answer → Type 0 where
-  awaits : {k : ℕ} → k ≡ length piece → Feeds p piece (Waiting k)
-  completes : {rows bytes k : ℕ} → k ≤ length piece → Feeds p piece (Finished rows bytes k)
-  rejects : {n told place k : ℕ} → k ≤ length piece → Refuses piece (p + k) n told place → Feeds p piece (Refused n told place k)
 
 -- what a state that stands so answers
 feeds : (p k : ℕ) (piece : List ℕ) (s : State) → Stands ⊥ (λ (b : ℕ). Bytes piece → b < 2 ^ 8) (p + k) s → k ≤ length piece
@@ -176,10 +153,6 @@ unfolding endCall end afterStep numbersOf stateOf refusals.sayable
 end-unbegun n m e = ap (λ s. endOf n m s) e
 
 -- ---- what every refusal leaves
-
--- an unbegun state says so to no bytes too, and keeps its loans
-pub unbegun-nothing : (n : Numbers) (m : Memory) → stateOf n m ≡ none m → feedCall n m [] ≡ fed (Refused refusals.lost 0 0 0) n m
-unbegun-nothing n m e = feed-nothing n m ∙ ap (λ (s : State). fed (answerOf s 0) n m) e
 
 module _ (n : Numbers) (m : Memory) (number told place k : ℕ) (n′ : Numbers) (m′ : Memory) where
   -- a refused state is read with the loans that come with it
@@ -318,7 +291,7 @@ pub data Lost (n : Numbers) (m : Memory) (b : ℕ) : Type 0 where
       → act x b ts (taken c) m ≡ over (refused refusals.lost 0 0 l) → Lost n m b
 
 -- only 12 is 12
-only-lost : {b p n told place : ℕ} (m : Memory) → Refusal b p n told place → n ≡ refusals.lost → (l : Memory) × (over (refused n told place m) ≡ over (refused refusals.lost 0 0 l))
+only-lost : {b p n told place : ℕ} (m : Memory) → RefusedBy b p n told place → n ≡ refusals.lost → (l : Memory) × (over (refused n told place m) ≡ over (refused refusals.lost 0 0 l))
 only-lost m (unknown h e) q = clash cc
 only-lost m (absent e) q = clash cc
 only-lost m (unfinished e) q = clash cc

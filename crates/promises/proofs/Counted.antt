@@ -17,9 +17,11 @@ use Rattle.format.specs.Answers.{answerOf, answered, runHeld, cost, costFrom, s
 use Rattle.format.proofs.Tests.{clash}
 use Rattle.format.proofs.Cuts.{joined}
 use Rattle.format.proofs.Pieces.{answerIn, takenIn, fedBy, fedPieces, tally, taken-pieces, run-still, taken-still}
-use Rattle.format.proofs.Placed.{Refusal, unknown, absent, unfinished, external, undated, malformed, deep, full, astrays}
+use Rattle.format.proofs.Placed.{RefusedBy, unknown, absent, unfinished, external, undated, malformed, deep, full, astrays}
 use Rattle.promises.proofs.Stands.{Stands, waits, finishes, faulty, declines, passes, forgets, Any, every-any, stands-byte, stands-run}
 use Rattle.format.specs.Refusals as refusals
+pub use Rattle.format.specs.Claims.{lastByte}
+pub use Rattle.format.specs.Byte.{Decided-by, ends, refuses, past}
 
 -- ---- what waits
 
@@ -127,13 +129,6 @@ module _ (h : Held) (a : List ℕ) (b : ℕ) (rest : List ℕ) (octet : b < 2 ^ 
 
 -- ---- what that byte says
 
--- an answer that byte b decided, the last of p bytes that are taken
-pub data Decided-by (b p : ℕ) : Answer → Type 0 where
-  ends : {rows bytes k : ℕ} → Decided-by b p (Finished rows bytes k)
-  refuses : {n told place k : ℕ} → Refusal b p n told place → Decided-by b p (Refused n told place k)
-  -- it isn't taken
-  past : {place k : ℕ} → place ≡ messageLimit → suc place ≡ p → Decided-by b p (Refused refusals.tooLong 0 place k)
-
 -- the place one further
 up : {at p place : ℕ} → at ≡ p + 1 → place ≡ at → place ≡ suc p
 up e f = omega arith
@@ -220,12 +215,6 @@ pub waits-answer : (s : State) (n : ℕ) → Waits s → answerOf s n ≡ Waitin
 waits-answer (wait x ts c m) n w = refl
 waits-answer (over e) n w = absurd w
 waits-answer (none m) n w = absurd w
-
--- the bytes that an answer's last byte counts as: none for 11 and 12
-abbrev pub lastByte : Answer → ℕ
-lastByte (Waiting n) = 1
-lastByte (Finished rows bytes n) = 1
-lastByte (Refused number told place n) = cond (eqb number refusals.tooLong || eqb number refusals.lost) 0 1
 
 -- it is what the state costs
 pub cost-answer : (s : State) (n : ℕ) → cost s ≡ lastByte (answerOf s n)

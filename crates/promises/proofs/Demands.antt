@@ -9,7 +9,6 @@ use lib.Dec.{T}
 use lib.ListN.{length, take, drop, replicate}
 use Rattle.rows.specs.declared.Cursor.{Cursor}
 use Rattle.rows.specs.Memory.{Memory, fresh, zeroed, faultOf, messageLimit, openLimit, noKey}
-use Rattle.wire.proofs.Octets.{Bytes}
 use Rattle.format.specs.Refusals as no
 use Rattle.format.specs.declared.Answer.{Answer}
 use Rattle.format.specs.declared.Answer.the-variants.{Waiting, Finished, Refused}
@@ -25,46 +24,38 @@ use Rattle.format.specs.Unfold.{unfolded, rowsIn}
 use Rattle.format.specs.Holds.{canHold}
 use Rattle.format.specs.RowTest.{tested}
 use Rattle.format.specs.Writing.{written, unwritten, writing}
+use Rattle.wire.specs.Octets.{Bytes}
+use Rattle.format.specs.Claims.{joined, answerIn, takenIn, untaken, fedBy, fedPieces, tally, untook, endBy, endRead, unread, firstNumbers, refusedNumbers}
+use Rattle.format.specs.Claims.{lostNumbers, placeOf, lastByte, Named, BeginSays, FeedSays, EndSays, ReadSays, WriteRefuses, WriteSays, readAnswer, writeAnswer}
+use Rattle.format.specs.Claims.{Going, FeedLeaves, EndLeaves, Feeds, usedRows, Shallow, Returns, Held-just, Passes, Wide, Again, NoShorter, Roomy, widened, beyond}
+use Rattle.format.specs.Claims.{extra, used}
+use Rattle.format.specs.Byte.{Decided-by}
+use Rattle.format.specs.Limits.{Accord, Kept-to, ReadingEnds}
+use Rattle.format.specs.Together.{Together, HoldsTogether}
+use Rattle.format.specs.Endings.{Outcome, Accepted, depth}
 use Rattle.format.proofs.Feeding as feeding
 use Rattle.format.proofs.Cuts as cuts
-use Rattle.format.proofs.Cuts.{joined}
 use Rattle.format.proofs.Pieces as pieces
-use Rattle.format.proofs.Pieces.{fedBy, fedPieces, untook, endBy, endRead, unread, tally, takenIn, untaken, answerIn}
 use Rattle.format.proofs.Unique as unique
 use Rattle.format.proofs.Wiped as wiped
 use Rattle.format.proofs.Meaning as meaning
-use Rattle.format.proofs.Meaning.{usedRows, Accord, Kept-to}
 use Rattle.format.proofs.Finished as tables
-use Rattle.format.proofs.RowTests.{Passes}
 use Rattle.format.proofs.Depth as deeper
-use Rattle.format.proofs.Depth.{Shallow}
 use Rattle.format.proofs.Fuel as fuel
 use Rattle.format.proofs.Writes as writes
-use Rattle.format.proofs.Writes.{Outcome, Accepted}
-use Rattle.format.proofs.Parts.{depth}
-use Rattle.format.proofs.Writable.{Writable}
+use Rattle.format.specs.Writable.{Writable}
 use Rattle.format.proofs.Round as round
-use Rattle.format.proofs.Again.{Wide}
 use Rattle.format.proofs.Size as size
 use Rattle.format.proofs.Exactly as exactly
-use Rattle.format.proofs.Exactly.{Held-just}
 use Rattle.format.proofs.Trip as trip
-use Rattle.format.proofs.Trip.{Returns}
-use Rattle.promises.proofs.Named.{Named, BeginSays, FeedSays, EndSays, ReadSays, WriteRefuses, WriteSays, readAnswer, writeAnswer, Going, FeedLeaves, EndLeaves}
-use Rattle.promises.proofs.Stands.{placeOf}
-use Rattle.promises.proofs.Counted.{Decided-by, lastByte}
 use Rattle.promises.proofs.Decides as decides
 use Rattle.promises.proofs.Answered as answered
-use Rattle.promises.proofs.Answered.{firstNumbers, refusedNumbers, lostNumbers, Feeds}
 use Rattle.promises.proofs.Together as together
-use Rattle.promises.proofs.Together.{Together}
+use Rattle.promises.proofs.Lookups as lookups
 use Rattle.promises.proofs.Ranges as ranges
-use Rattle.promises.proofs.Ranges.{Reads}
 use Rattle.promises.proofs.Ample as ample
 use Rattle.promises.proofs.Roomy as roomy
-use Rattle.promises.proofs.Roomy.{NoShorter, Roomy, widened, beyond, extra, used}
 use Rattle.promises.proofs.Trips as trips
-use Rattle.promises.proofs.Trips.{Again}
 
 -- ======== 1. Total
 
@@ -105,7 +96,7 @@ write-refusal-named = ranges.write-named
 
 -- a state never begun says 12, to no bytes too. Refuses: a state never begun that answers waiting to an empty piece
 pub unbegun-says : (state : Numbers) (m : Memory) → stateOf state m ≡ none m → feedCall state m [] ≡ fed (Refused no.lost 0 0 0) state m
-unbegun-says = answered.unbegun-nothing
+unbegun-says = pieces.unbegun-nothing
 
 -- to bytes it says so and zeroes the loans
 pub unbegun-lost : (state : Numbers) (m : Memory) (b : ℕ) (bs : List ℕ) → stateOf state m ≡ none m
@@ -117,7 +108,12 @@ pub apart-lost : (state : Numbers) (m : Memory) (b : ℕ) (bs : List ℕ) (x : M
     → (Together (state .head .lent) x ts c m → ⊥) → feedCall state m (b ∷ bs) ≡ fed (Refused no.lost 0 0 0) (lostNumbers state) (zeroed m)
 apart-lost = together.apart-lost
 
--- one that does gets it only where what the loans and the frames hold doesn't fit what was read
+-- one that holds together, with its frames and the tables, never gets it. Refuses: a step that says 12 where nothing that it reads is out of range
+pub together-never-12 : (state : Numbers) (m : Memory) (b : ℕ) (x : Mode) (ts : List Frame) (c : Cursor) → b < 2 ^ 8 → stateOf state m ≡ wait x ts c m
+    → HoldsTogether (state .head .lent) x ts c m → (told place k : ℕ) → answerIn (feedCall state m (b ∷ [])) ≢ Refused no.lost told place k
+together-never-12 = lookups.together-never-lost
+
+-- one whose head does gets it only where what the frames and the tables hold doesn't fit what was read
 pub together-lost : (state : Numbers) (m : Memory) (b : ℕ) (x : Mode) (ts : List Frame) (c : Cursor) → b < 2 ^ 8 → stateOf state m ≡ wait x ts c m
     → Together (state .head .lent) x ts c m → (told place k : ℕ) → answerIn (feedCall state m (b ∷ [])) ≡ Refused no.lost told place k
     → (l : Memory) × (act x b ts (taken c) m ≡ over (refused no.lost 0 0 l))
@@ -171,7 +167,7 @@ pub standard-kept : (m : Memory) (bytes : List ℕ) → Bytes bytes → faultOf 
 standard-kept = meaning.standard-kept
 
 -- the limits: 9 and 10 have the place of a byte, 10 a loan, and 11 only where as many bytes are taken as may be and there are more
-pub reading-ends : (m : Memory) (bytes : List ℕ) → Bytes bytes → Reads bytes (reading m bytes)
+pub reading-ends : (m : Memory) (bytes : List ℕ) → Bytes bytes → ReadingEnds bytes (reading m bytes)
 reading-ends = ranges.reading-named
 
 -- enough is enough: what the standard finishes, the loans can hold and isn't too deep, is read, with references and long forms too. Refuses: every trait reference

@@ -7,13 +7,13 @@ pub mod Brief
 pub mod Ample
 pub mod Roomy
 -- What each call may answer and leave: definitions only.
-pub mod Named
 -- On any state: refusals have their places, bytes their counts, answers their names.
 pub mod Stands
 pub mod Counted
 pub mod Decides
 pub mod Answered
 pub mod Together
+pub mod Lookups
 pub mod Ranges
 -- The round trip through the calls.
 pub mod Trips

@@ -29,17 +29,18 @@ use Rattle.format.proofs.Feeding.{feeding}
 use Rattle.format.proofs.Shows.{shows-run, shows-begin, good-along, good-waits}
 use Rattle.format.proofs.Pieces.{answerIn}
 use Rattle.format.proofs.Meaning.{never-lost}
-use Rattle.format.proofs.Placed.{Refusal, unknown, absent, unfinished, external, undated, malformed, deep, full as fullLoan, astrays}
+use Rattle.format.proofs.Placed.{RefusedBy, unknown, absent, unfinished, external, undated, malformed, deep, full as fullLoan, astrays}
 use Rattle.promises.proofs.Stands.{Stands, waits, finishes, faulty as faultyLoan, declines, passes, forgets, Octet, every-byte, fault-most}
 use Rattle.promises.proofs.Stands.{stands-begin, stands-run}
 use Rattle.promises.proofs.Counted.{Waits, waits-all}
 use Rattle.promises.proofs.Answered.{answer-of, taken-most, begin-waits, begin-refuses}
-use Rattle.promises.proofs.Named.{Named, Lendable, BeginSays, FeedSays, EndSays, ReadSays, WriteRefuses, lends, nests, fills, misshapes, empties, unsuits}
-use Rattle.promises.proofs.Named.{WriteSays, readAnswer, writeAnswer}
+use Rattle.format.specs.Claims.{Named, Lendable, BeginSays, FeedSays, EndSays, ReadSays, WriteRefuses, lends, nests, fills, misshapes, empties, unsuits}
+use Rattle.format.specs.Claims.{WriteSays, readAnswer, writeAnswer}
 use Rattle.format.proofs.Writes.{whole as wholly, full, tooDeep, fullBefore, Outcome, fault, unfit, passed, writes}
 use Rattle.format.specs.Refusals as refusals
 use Rattle.rows.specs.Memory.{loanRows, loanStore, loanNames, loanOutput, rowWidth, rowsMost, storeMost}
 use Rattle.format.specs.Codes.{statusWaiting, statusFinished, statusRefused}
+pub use Rattle.format.specs.Limits.{ReadingEnds, whole, faults, cut, byte, past}
 
 -- ---- each refusal that can be said is one of document 01's
 
@@ -178,20 +179,6 @@ end-says n m = end-of n m (stateOf n m) refl (said n m)
 
 -- ---- read
 
--- how a reading of bs ends
-pub data Reads (bs : List ℕ) : Ended → Type 0 where
-  -- so many bytes are taken
-  whole : {c : Cursor} {m : Memory} → c .at ≤ length bs → Reads bs (finished c m)
-  -- 1: a loan
-  faults : {loan : ℕ} {m : Memory} → loanRows ≤ loan → loan ≤ loanNames → Reads bs (refused refusals.badLoan loan 0 m)
-  -- 2: the bytes end too soon, and its place is their end
-  cut : {place : ℕ} {m : Memory} → place ≡ length bs → place ≤ messageLimit → Reads bs (refused refusals.unexpectedEnd 0 place m)
-  -- 3 to 10: a byte b, the last of p that were taken
-  byte : {number told place : ℕ} {m : Memory} (b p : ℕ) → b < 2 ^ 8 → p ≤ length bs → place ≤ messageLimit → Refusal b p number told place
-      → Reads bs (refused number told place m)
-  -- 11: as many are taken as may be, and there are more
-  past : {place : ℕ} {m : Memory} → place ≡ messageLimit → messageLimit < length bs → Reads bs (refused refusals.tooLong 0 place m)
-
 -- what begin leaves
 abbrev first : Memory → Held
 first m = afterStep (blank (lentOf m)) (begin m)
@@ -239,7 +226,7 @@ past-length h (b ∷ bs) e z = elim (ℕ-discrete (takenBy h (b ∷ bs)) (suc (l
 ]
 
 -- a refusal has a place within the bytes taken
-refusal-place : {b p n told place : ℕ} → Refusal b p n told place → place ≤ p
+refusal-place : {b p n told place : ℕ} → RefusedBy b p n told place → place ≤ p
 refusal-place (unknown l e) = omega arith
 refusal-place (absent e) = omega arith
 refusal-place (unfinished e) = omega arith
@@ -251,7 +238,7 @@ refusal-place (fullLoan t e) = omega arith
 refusal-place astrays = omega arith
 
 -- a finished reading took no more than there is
-read-taken : {bs : List ℕ} {c : Cursor} {m : Memory} → Reads bs (finished c m) → c .at ≤ length bs
+read-taken : {bs : List ℕ} {c : Cursor} {m : Memory} → ReadingEnds bs (finished c m) → c .at ≤ length bs
 read-taken (whole h) = h
 
 -- a reading's numbers go to 12
@@ -285,7 +272,7 @@ below n h f = omega (arith, f)
 
 module _ (m : Memory) (bs : List ℕ) (octets : Bytes bs) where
   -- how a state behind the bytes ends
-  reads-of : (s : State) → s ≡ stateIn (runHeld (first m) bs) → Stands Unit Octet (takenBy (first m) bs) s → Reads bs (end s)
+  reads-of : (s : State) → s ≡ stateIn (runHeld (first m) bs) → Stands Unit Octet (takenBy (first m) bs) s → ReadingEnds bs (end s)
   unfolding end
   reads-of s q (waits {x = x} {ts = ts} {c = c} {m = k} e) =
       let v : Waits (stateIn (runHeld (first m) bs)) = rw (← q) tt in
@@ -302,7 +289,7 @@ module _ (m : Memory) (bs : List ℕ) (octets : Bytes bs) where
   reads-of s q (forgets b k y f z) = absurd (f y)
 
   -- on any loans and bytes
-  pub reading-named : Reads bs (reading m bs)
+  pub reading-named : ReadingEnds bs (reading m bs)
   reading-named =
       let q : stateIn (runHeld (first m) bs) ≡ run (begin m) bs = (shows-run (begin m) (first m) bs octets (shows-begin m)) .shown in
       rw (← feeding m bs, ← q)
@@ -320,7 +307,7 @@ module _ (m : Memory) (bs : List ℕ) (octets : Bytes bs) where
   reading-said = rw (feeding m bs) at (good-says (run (begin m) bs) (good-along m bs octets))
 
   -- its place is within the limit and the bytes
-  read-place : (n told place : ℕ) (l : Memory) (e : Ended) → Reads bs e → e ≡ refused n told place l → (place ≤ messageLimit) × (place ≤ length bs)
+  read-place : (n told place : ℕ) (l : Memory) (e : Ended) → ReadingEnds bs e → e ≡ refused n told place l → (place ≤ messageLimit) × (place ≤ length bs)
   read-place n told place l e (whole h) q = clash cc
   read-place n told place l e (faults h i) q = let v : 0 ≡ place = cc in (omega arith, omega arith)
   read-place n told place l e (cut {place = w} h i) q = let v : w ≡ place = cc in (omega arith, omega arith)
@@ -328,7 +315,7 @@ module _ (m : Memory) (bs : List ℕ) (octets : Bytes bs) where
   read-place n told place l e (past {place = w} h i) q = let v : w ≡ place = cc in (omega arith, omega arith)
 
   -- what its end answers
-  read-of : (e : Ended) → reading m bs ≡ e → Reads bs e → Said (over e) → ReadSays (length bs) (readAnswer (readOf e))
+  read-of : (e : Ended) → reading m bs ≡ e → ReadingEnds bs e → Said (over e) → ReadSays (length bs) (readAnswer (readOf e))
   unfolding messageLimit
   read-of (finished c l) q h r = (lendable c r, read-taken h)
   read-of (refused n told place l) q h r =

@@ -48,26 +48,9 @@ use Rattle.format.proofs.Meaning.{never-lost, read-alike}
 use Rattle.format.proofs.Memories.{numbers}
 use Rattle.format.specs.Refusals as refusals
 use Rattle.rows.specs.Memory.{loanRows, loanStore, loanStrings, loanObjects, loanTraits, loanNames}
+pub use Rattle.format.specs.Claims.{Longer, more, wider, widened, beyond, extra, NoShorter, Roomy, used}
 
 -- ---- longer loans
-
--- so many numbers more in each loan
-pub record Longer : Type 0 where
-  pub rows : ℕ
-  pub store : ℕ
-  pub strings : ℕ
-  pub objects : ℕ
-  pub traits : ℕ
-  pub names : ℕ
-
--- zeros behind a list, behind each loan
-abbrev pub more : ℕ → List ℕ → List ℕ
-more n l = l ++ replicate n 0
-
-abbrev pub wider : Longer → Memory → Memory
-wider w m =
-    memory (more (w .rows) (m .rows)) (more (w .store) (m .store)) (more (w .strings) (m .strings)) (more (w .objects) (m .objects)) (more (w .traits) (m .traits))
-    (more (w .names) (m .names))
 
 pub more-length : (n : ℕ) (l : List ℕ) → length (more n l) ≡ length l + n
 more-length n l = length-append l (replicate n 0) ∙ ap (λ z. length l + z) (length-replicate n 0)
@@ -94,16 +77,6 @@ more-sets n [] l i h = refl
 more-sets n (v ∷ vs) l i h = rw (more-set n l i v (omega arith)) (more-sets n vs (set l i v) (suc i) (rw length-set (omega arith)))
 
 -- ---- decisions
-
--- so many numbers more in a loan
-abbrev pub extra : Longer → ℕ → ℕ
-extra w loan =
-    cond (eqb loan loanRows) (w .rows)
-    (cond (eqb loan loanStore) (w .store)
-    (cond (eqb loan loanStrings) (w .strings)
-    (cond (eqb loan loanObjects) (w .objects)
-    (cond (eqb loan loanTraits) (w .traits)
-    (cond (eqb loan loanNames) (w .names) 0)))))
 
 -- a state that doesn't hold together; or no room in a loan that is longer
 pub data Tight (w : Longer) : ℕ → ℕ → Type 0 where
@@ -689,32 +662,6 @@ module _ {w : Longer} where
 
 -- ---- a message
 
--- a reading's end, with longer loans
-abbrev pub widened : Longer → Ended → Ended
-widened w (finished c m) = finished c (wider w m)
-widened w (refused n told place m) = refused n told place (wider w m)
-
--- so much longer are the loans of the second
-abbrev pub beyond : Memory → Memory → Longer
-beyond m m′ =
-    record {
-      rows = length (m′ .rows) - length (m .rows);
-      store = length (m′ .store) - length (m .store);
-      strings = length (m′ .strings) - length (m .strings);
-      objects = length (m′ .objects) - length (m .objects);
-      traits = length (m′ .traits) - length (m .traits);
-      names = length (m′ .names) - length (m .names);
-    }
-
--- each loan of the second is as long or longer
-pub record NoShorter (m m′ : Memory) : Type 0 where
-  pub rows : length (m .rows) ≤ length (m′ .rows)
-  pub store : length (m .store) ≤ length (m′ .store)
-  pub strings : length (m .strings) ≤ length (m′ .strings)
-  pub objects : length (m .objects) ≤ length (m′ .objects)
-  pub traits : length (m .traits) ≤ length (m′ .traits)
-  pub names : length (m .names) ≤ length (m′ .names)
-
 zeros-more : (n : ℕ) (l : List ℕ) → zeros (more n l) ≡ more n (zeros l)
 zeros-more n l = ap (λ z. replicate z 0) (more-length n l) ∙ sym (replicate-append-replicate (length l) n 0)
 
@@ -756,10 +703,6 @@ ended-wider w (fine {m = m} {c = c}) = level {e = finished c m}
 ended-wider w (same {n = n} {t = t} {p = p} {m = m}) = rw (zeroed-wider w m) (level {e = refused n t p (zeroed m)})
 ended-wider w (short e) = cramped e
 
--- not refused for want of room
-abbrev pub Roomy : Ended → Type 0
-Roomy e = (told place : ℕ) (m : Memory) → e ≢ refused refusals.noRoom told place m
-
 -- with longer loans
 module _ (m m′ : Memory) (bs : List ℕ) (octets : Bytes bs) (fault : faultOf m ≡ 0) (fault′ : faultOf m′ ≡ 0) (longer : NoShorter m m′) where
   -- how the two readings end
@@ -789,12 +732,6 @@ module _ (m m′ : Memory) (bs : List ℕ) (octets : Bytes bs) (fault : faultOf 
       met (cramped {t = t} (lacks g)) q = let i : t ≡ loan = cc in let j : 0 < extra (beyond m m′) loan = rw i at g in absurd (omega arith)
 
 -- ---- the used parts
-
--- what is used of each loan
-abbrev pub used : Cursor → Memory → Memory
-used c m =
-    memory (take (c .rows * rowWidth) (m .rows)) (take (c .store) (m .store)) (take (c .strings * spanWidth) (m .strings)) (take (c .objects) (m .objects))
-    (take (c .traits * traitWidth) (m .traits)) (take (c .names * spanWidth) (m .names))
 
 -- it lies in the loans
 pub record Lies (c : Cursor) (m : Memory) : Type 0 where

@@ -22,11 +22,12 @@ use Rattle.format.proofs.Tests.{on-bool, is-true}
 use Rattle.format.proofs.Kept.{holds-finishable}
 use Rattle.format.proofs.Along.{Able, completes, rejects, able-step, good-able}
 use Rattle.format.proofs.Shows.{good-sound, good-waits}
-use Rattle.format.proofs.Placed.{Refusal, unknown, absent, unfinished, external, undated, malformed, deep, full, astrays, placed-act, Placed}
+use Rattle.format.proofs.Placed.{RefusedBy, unknown, absent, unfinished, external, undated, malformed, deep, full, astrays, placed-act, Placed}
 use Rattle.format.proofs.Placed as placed
-use Rattle.promises.proofs.Named.{Going, waiting, unbegun}
+use Rattle.format.specs.Claims.{Going, waiting, unbegun}
 use Rattle.format.specs.Refusals as refusals
 use Rattle.rows.specs.Memory.{loanRows, loanNames}
+pub use Rattle.format.specs.Claims.{placeOf}
 
 -- ---- a state, `at` bytes taken; `Begun` is known where the beginning refused it, `Byte` of a byte that was refused
 
@@ -37,7 +38,7 @@ pub data Stands (Begun : Type 0) (Byte : ℕ → Type 0) (at : ℕ) : State → 
   -- the beginning refused a loan from 1 to 6
   faulty : {loan : ℕ} {m : Memory} → Begun → loanRows ≤ loan → loan ≤ loanNames → at ≡ 0 → Stands Begun Byte at (over (refused refusals.badLoan loan 0 m))
   -- a byte was refused, and taken but for 12
-  declines : {n told place : ℕ} {m : Memory} (b : ℕ) (k : Memory) → Byte b → Refusal b at n told place → place ≤ messageLimit → m ≡ zeroed k
+  declines : {n told place : ℕ} {m : Memory} (b : ℕ) (k : Memory) → Byte b → RefusedBy b at n told place → place ≤ messageLimit → m ≡ zeroed k
       → Stands Begun Byte at (over (refused n told place m))
   -- a byte past the limit was refused, and not taken
   passes : {place : ℕ} {m : Memory} (k : Memory) → place ≡ messageLimit → place ≡ at → m ≡ zeroed k → Stands Begun Byte at (over (refused refusals.tooLong 0 place m))
@@ -77,7 +78,7 @@ on-refused P n number told place m f g = on-bool (refusals.sayable number told p
 
 -- a byte's refusal counts it, but for 12
 after-said : {Begun : Type 0} {Byte : ℕ → Type 0} {b at n told place : ℕ} {m : Memory} (k : Memory) → Byte b → suc at ≤ messageLimit
-    → Refusal b (suc at) n told place → m ≡ zeroed k
+    → RefusedBy b (suc at) n told place → m ≡ zeroed k
     → Stands Begun Byte (at + cost (over (refused n told place m))) (over (refused n told place m))
 after-said {b} k y h (unknown l e) z = rw add-one (declines b k y (unknown l e) (omega arith) z)
 after-said {b} k y h (absent e) z = rw add-one (declines b k y (absent e) (omega arith) z)
@@ -186,12 +187,6 @@ pub stands-run : {Begun : Type 0} {Byte : ℕ → Type 0} {at : ℕ} (h : Held) 
 unfolding runHeld takenBy
 stands-run h [] last w = rw add-zero w
 stands-run h (b ∷ bs) (next y ys) w = rw (← add-assoc) (stands-run (byteStep b h) bs ys (stands-byte b h y w))
-
--- where a state stands that hasn't ended
-abbrev pub placeOf : State → ℕ
-placeOf (wait x ts c m) = c .at
-placeOf (over e) = 0
-placeOf (none m) = 0
 
 -- a byte on a state that has not ended
 going-stepped : {Byte : ℕ → Type 0} (b : ℕ) (n : Numbers) (m : Memory) (s : State) → Byte b → Going s

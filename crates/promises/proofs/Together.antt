@@ -21,19 +21,10 @@ use Rattle.format.proofs.Kept.{faultIn}
 use Rattle.format.proofs.Along.{Fits}
 use Rattle.format.proofs.Shows.{sound-holds, pairs-sound, good-sound, good-waits}
 use Rattle.format.proofs.Pieces.{answerIn}
-use Rattle.promises.proofs.Named.{waiting}
+use Rattle.format.specs.Claims.{waiting}
 use Rattle.promises.proofs.Answered.{lostNumbers, unsound-lost, Lost, never, unsound, unfit, lost-only}
 use Rattle.format.specs.Refusals as refusals
-
--- the loans are those of the beginning, which 1 would not refuse; no more is taken, open and used than can be; what the mode works with is used
-pub record Together (lent : Lent) (x : Mode) (ts : List Frame) (c : Cursor) (m : Memory) : Type 0 where
-  pub loans : lentOf m ≡ lent
-  pub clean : faultOf m ≡ 0
-  pub within : c .at ≤ messageLimit
-  pub open-fits : Fits x (length ts)
-  pub counts : Counts lent c
-  pub works : ModeIn x c
-  pub pairs : PairsIn x c
+pub use Rattle.format.specs.Together.{Together}
 
 -- six lengths that are the same
 abbrev lengths : ℕ → ℕ → ℕ → ℕ → ℕ → ℕ → Lent

@@ -29,6 +29,7 @@ use Rattle.format.proofs.Pieces.{fedPieces, tally, endBy, endRead, unread, feed
 use Rattle.format.proofs.Writes.{accepted, reported}
 use Rattle.format.proofs.Again.{Wide}
 use Rattle.format.proofs.Trip.{Returns, round-trip}
+pub use Rattle.format.specs.Claims.{Again}
 
 -- ---- lists of bytes
 
@@ -206,16 +207,6 @@ unfolding unfolded
 encode-bytes R B h = bytes-of (octets-tree R B (octets-of B h) (rowsIn R) 0)
 
 -- ---- through the calls
-
--- reading bs finishes with n bytes taken and rows that unfold to t, and so it does however the bytes are cut
-pub record Again (m : Memory) (bs : List ℕ) (n : ℕ) (t : Tree) : Type 0 where
-  pub rows : ℕ
-  pub bytes : ℕ
-  pub loans : Memory
-  pub reads : readCall m bs ≡ read (Finished rows bytes n) loans
-  pub unfolds : unfolded (take (rows * rowWidth) (loans .rows)) (loans .store) 0 ≡ t
-  pub ends : (parts : List (List ℕ)) → joined parts ≡ bs → endRead (endBy (fedPieces (beginCall m) parts)) ≡ read (Finished rows bytes 0) loans
-  pub takes : (parts : List (List ℕ)) → joined parts ≡ bs → tally (beginCall m) parts ≡ n
 
 again : (m : Memory) (bs : List ℕ) (n : ℕ) (t : Tree) → Bytes bs → Returns (reading m bs) n t → Again m bs n t
 unfolding readCall

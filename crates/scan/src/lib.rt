@@ -105,10 +105,11 @@ pub fn byte(message: &[u8], c: Cursor) -> Number
 fn within(message: &[u8], c: Cursor, read: Read) -> Number
     ensures { λ x. ⌜ x ≡ withinOf (length (now (message .entry))) c read ⌝ }
 {
-    if let Read::Value(n, next) = read {
-        if next <= MESSAGE_LIMIT {
-            return Number::Whole(n, moved(c, next));
-        }
+    let Read::Value(n, next) = read else {
+        return Number::No(short(message.len(), c.at));
+    };
+    if next <= MESSAGE_LIMIT {
+        return Number::Whole(n, moved(c, next));
     }
     Number::No(short(message.len(), c.at))
 }

@@ -50,20 +50,19 @@ pub fn read(
         rows::no_key(),
         OPEN_LIMIT,
     );
-    match a {
-        Done::Fine(c) => Answer::Finished {
-            rows: c.rows,
-            bytes: c.store,
-            taken: c.at,
-        },
-        Done::Refused(refusal) => {
-            rows::clear(rows, store, strings, objects, traits, names);
-            Answer::Refused {
-                no: refusal.number,
-                told: refusal.told,
-                place: refusal.place,
-                taken: 0,
-            }
-        }
+    let Done::Fine(c) = a else {
+        rows::clear(rows, store, strings, objects, traits, names);
+        let refusal = decide::not_done(a);
+        return Answer::Refused {
+            no: refusal.number,
+            told: refusal.told,
+            place: refusal.place,
+            taken: 0,
+        };
+    };
+    Answer::Finished {
+        rows: c.rows,
+        bytes: c.store,
+        taken: c.at,
     }
 }

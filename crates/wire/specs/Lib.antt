@@ -4,3 +4,4 @@ pub mod Word
 pub mod Sign
 pub mod Big
 pub mod Date
+pub mod Octets

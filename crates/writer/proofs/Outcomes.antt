@@ -5,6 +5,7 @@ use mathlib.Core.List.{List}
 use Prim.Native.Nat.{ℕ, zero, suc}
 use Rattle.rows.specs.Memory.{openLimit, rowsFault}
 use Rattle.format.specs.RowTest.{tested, faulty}
+use Rattle.format.specs.declared.Written.{Written}
 use Rattle.format.specs.declared.Written.the-variants.{Bytes, Unwritten}
 use Rattle.format.specs.Writing.{settle, writing}
 use Rattle.format.specs.Answers.{output, writtenOf, writeCall}
@@ -33,9 +34,9 @@ module _ (R B O : List ℕ) where
     unfolding writeCall writing
     settled = rw (fit .lent, fit .rows, emit-levels R B (fit .rows) openLimit 0 (tested-rows R B (fit .rows) .0))
 
-    pub measure-not : {n p t : ℕ} → m ≡ Stop n p → t ≡ told n → output (Unwritten n t p) P ≡ writeCall R B O
+    pub measure-not : {n p : ℕ} {r : Written} → m ≡ Stop n p → r ≡ Unwritten n (told n) p → output r P ≡ writeCall R B O
     measure-not {n} {p} g e =
-        ap (λ (t : ℕ). output (Unwritten n t p) P) e ∙ ap writtenOf (settle-stop (valueAt openLimit R B 0) O d g) ∙ settled
+        ap (λ (r : Written). output r P) e ∙ ap writtenOf (settle-stop (valueAt openLimit R B 0) O d g) ∙ settled
 
     pub written-is : {n : ℕ} {w : Put} {Q : List ℕ} → m ≡ At n → ran w Q ≡ run false (valueAt openLimit R B 0) 0 P → output (Bytes n) Q ≡ writeCall R B O
     written-is g r = ap writtenOf (settle-written (valueAt openLimit R B 0) O d g r) ∙ settled

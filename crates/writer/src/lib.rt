@@ -23,6 +23,8 @@ ghost use Rattle.format.specs.Standard.{Tree, boolean, integer, double, date, s
 ghost use Rattle.format.specs.Unfold.{part, keyText, classText, after, node};
 ghost use Rattle.format.specs.Writing.{Stream, these, emitIn};
 ghost use Rattle.format.specs.Answers.{output, writeCall};
+ghost use Rattle.format.specs.declared.Written.the-variants as written;
+ghost use Rattle.writer.specs.declared.Put.the-variants as put;
 ghost use Rattle.writer.specs.Run.{ran, run};
 ghost use Rattle.writer.specs.Pieces.{Fit, Of, Plainly, valueAt, nodeAt, itemsAt, pairingsAt, namesAt, objectHeadAt, vectorHeadAt};
 
@@ -46,6 +48,14 @@ const NEW: usize = 1;
 const NEW_TRAIT: usize = 3;
 
 const NEW_DYNAMIC: usize = 11;
+
+// The size word of what is new and has `n` bytes or entries.
+fn size_word(n: usize) -> usize
+    requires { ⌜ n < 2 ^ 63 ⌝ }
+    ensures { λ r. ⌜ r ≡ n * 2 + 1 ⌝ }
+{
+    (n << 1usize) | NEW
+}
 
 // ---- bytes
 
@@ -146,7 +156,7 @@ fn put_head(out: &mut [u8], at: usize, marker: u8, word: usize, dry: bool) -> Pu
 fn put_text(part: &[u8], out: &mut [u8], at: usize, dry: bool) -> Put
     ensures { λ r. ⌜ ran r (now (out .exit)) ≡ run dry (these (textBytes (now (part .entry)))) at (now (out .entry)) ⌝ }
 {
-    let a = put_u29(out, at, part.len() * 2 + NEW, dry);
+    let a = put_u29(out, at, size_word(part.len()), dry);
     let Put::At(next) = a else {
         return a;
     };
@@ -175,7 +185,7 @@ fn put_flagged(out: &mut [u8], at: usize, marker: u8, count: usize, flag: usize,
     requires { ⌜ count < 2 ^ 63 ⌝ }
     ensures { λ r. ⌜ ran r (now (out .exit)) ≡ run dry (these (marker ∷ sizeBytes count ++ flagByte (not (eqb flag 0)) ∷ [])) at (now (out .entry)) ⌝ }
 {
-    let a = put_head(out, at, marker, count * 2 + NEW, dry);
+    let a = put_head(out, at, marker, size_word(count), dry);
     let Put::At(next) = a else {
         return a;
     };
@@ -367,9 +377,9 @@ fn trait_word(sealed: usize, dynamic: usize) -> usize
     ensures { λ r. ⌜ r ≡ cond (eqb dynamic 0) (sealed * 16 + 3) (sealed * 16 + 11) ⌝ }
 {
     if dynamic == 0 {
-        return sealed * 16 + NEW_TRAIT;
+        return (sealed << 4usize) | NEW_TRAIT;
     }
-    sealed * 16 + NEW_DYNAMIC
+    (sealed << 4usize) | NEW_DYNAMIC
 }
 
 fn put_object_head(
@@ -502,7 +512,7 @@ fn write_array(
 {
     let count = rows::count_at(rows, j);
     let count2 = rows::count2_at(rows, j);
-    let a = put_head(out, at, markers::ARRAY, count2 * 2 + NEW, dry);
+    let a = put_head(out, at, markers::ARRAY, size_word(count2), dry);
     let Put::At(p) = a else {
         return a;
     };
@@ -649,22 +659,36 @@ fn told_by(no: usize) -> usize
     0
 }
 
+// What a run that stopped tells of the tree.
+fn unwritten(a: Put) -> Written
+    ensures { λ r. ⌜ ((no place : ℕ) → a ≡ put.Stop no place → r ≡ written.Unwritten no (cond (eqb no 10) 7 0) place) ⌝ }
+{
+    match a {
+        Put::At(n) => Written::Unwritten {
+            no: refusals::LOST,
+            told: 0,
+            place: n,
+        },
+        Put::Stop { no, place } => Written::Unwritten {
+            no,
+            told: told_by(no),
+            place,
+        },
+    }
+}
+
 // Measured, and written if it fits: of rows that are not refused.
 fn write_root(rows: &[usize], store: &[u8], out: &mut [u8]) -> Written
     requires { ⌜ Fit (now rows) (now store) ⌝ }
     ensures { λ r. ⌜ output r (now (out .exit)) ≡ writeCall (now (rows .entry)) (now (store .entry)) (now (out .entry)) ⌝ }
 {
     let measured = write_value(rows, store, out, 0, 0, OPEN_LIMIT, true);
-    match measured {
-        Put::Stop { no, place } => {
-            let told = told_by(no);
-            Written::Unwritten { no, told, place }
-        }
-        Put::At(n) => {
-            write_value(rows, store, out, 0, 0, OPEN_LIMIT, false);
-            Written::Bytes(n)
-        }
-    }
+    let Put::At(n) = measured else {
+        return unwritten(measured);
+    };
+    // `run` gives the same place to a run that is dry and to one that is not: this one ends at `n` as well.
+    write_value(rows, store, out, 0, 0, OPEN_LIMIT, false);
+    Written::Bytes(n)
 }
 
 // The tree of row 0, unfolded: 1 for the rows, then for the store; 13 and 14; 9 and 10. A refusal leaves the output as it was.

@@ -1,5 +1,5 @@
 -- Made by proofs.py from answers/+write_array+write_dictionary+write_items+write_object+write_pairs+write_value+write_vector.txt: change that file, not this one.
--- answers d76a81ea7496 proof 1595d6e908b7
+-- answers 28236456b844 proof f084e2a78b30
 use borrow.Author.Needs.{needs}
 use native.Mathlib.Omega.{arith}
 use mathlib.Core.Path.{_≡_, refl, sym, ap, _∙_}
@@ -49,6 +49,7 @@ use Rattle.writer.proofs.put_object_head.Reads as put-object-head-reads
 use Rattle.writer.proofs.put_plain.Reads as put-plain-reads
 use Rattle.writer.proofs.put_vector_head.Reads as put-vector-head-reads
 use Rattle.writer.proofs.row_after.Reads as row-after-reads
+use Rattle.writer.proofs.size_word.Reads as size-word-reads
 use Rattle.writer.proofs.+write_array+write_dictionary+write_items+write_object+write_pairs+write_value+write_vector.{statement}
 use Rattle.writer.proofs.+write_array+write_dictionary+write_items+write_object+write_pairs+write_value+write_vector.Tie.{close}
 
@@ -117,7 +118,7 @@ write-vector-below t = and 3 write-vector-kinds.ps (falls 3 write-vector-kinds.p
 
 abbrev write-array-claims : ℕ → write-array-lts.Claims
 write-array-claims t =
-    (count-at-reads.Asked, count-at-reads.Learnt, count2-at-reads.Asked, count2-at-reads.Learnt, put-head-reads.Asked, put-head-reads.Learnt, write-pairs-below t, write-pairs.Post, put-byte-reads.Asked, put-byte-reads.Learnt, row-after-reads.Asked, row-after-reads.Learnt, write-items-below t, write-items.Post)
+    (count-at-reads.Asked, count-at-reads.Learnt, count2-at-reads.Asked, count2-at-reads.Learnt, size-word-reads.Asked, size-word-reads.Learnt, put-head-reads.Asked, put-head-reads.Learnt, write-pairs-below t, write-pairs.Post, put-byte-reads.Asked, put-byte-reads.Learnt, row-after-reads.Asked, row-after-reads.Learnt, write-items-below t, write-items.Post)
 
 write-array-count-at-requires : (t : ℕ) → write-array-lts.Need-count-at-requires (write-array-claims t) (write-array-at t) write-array.Post
 write-array-count-at-requires t c κs = search needs
@@ -125,15 +126,8 @@ write-array-count-at-requires t c κs = search needs
 write-array-count2-at-requires : (t : ℕ) → write-array-lts.Need-count2-at-requires (write-array-claims t) (write-array-at t) write-array.Post
 write-array-count2-at-requires t c κs = search needs
 
-write-array-mul-put-head : (t : ℕ) → write-array-lts.Need-mul-put-head (write-array-claims t) (write-array-at t) write-array.Post
-write-array-mul-put-head t c = omega (
-  arith,
-  bounds.two-few (c .before .before .before .before .before .before .pre .1)
-      (c .before .before .count-at .ensures) (omega arith) refl (c .before .count2-at .ensures),
-)
-
-write-array-add-put-head : (t : ℕ) → write-array-lts.Need-add-put-head (write-array-claims t) (write-array-at t) write-array.Post
-write-array-add-put-head t c = omega (
+write-array-size-word-requires : (t : ℕ) → write-array-lts.Need-size-word-requires (write-array-claims t) (write-array-at t) write-array.Post
+write-array-size-word-requires t c κs = omega (
   arith,
   bounds.two-few (c .before .before .before .before .before .before .pre .1)
       (c .before .before .count-at .ensures) (omega arith) refl (c .before .count2-at .ensures),
@@ -153,28 +147,29 @@ write-array-same-length t c = c .before .before .before .before .put-head .kept 
 
 write-array-returns : (t : ℕ) → write-array-lts.Need-returns (write-array-claims t) (write-array-at t) write-array.Post
 write-array-returns t c =
-    let b6 = c .before .before .before .before .before .before in
-    let b7 = b6 .before in
-    let b11 = b7 .before .before .before .before in
-    streams.renamed _ _ _ _ _ (sym (nodes.array-is _ _ _ _ (b7 .count-at .ensures) _ (b6 .count2-at .ensures) (b11 .pre .1 .is))) (streams.then-stop _
-    _ _ _ _ (c .before .before .before .before .put-head .ensures) (c .enum-told .given .1))
+    let b5 = c .before .before .before .before .before in
+    let b7 = b5 .before .before in
+    let b8 = b7 .before in
+    let b12 = b8 .before .before .before .before in
+    streams.renamed _ _ _ _ _ (sym (nodes.array-is _ _ _ _ (b8 .count-at .ensures) _ (b7 .count2-at .ensures) (b12 .pre .1 .is))) (streams.then-stop _
+    _ _ _ _ (rw (b5 .size-word .ensures) at (c .before .before .before .before .put-head .ensures)) (c .enum-told .given .1))
 
 write-array-add-write-pairs : (t : ℕ) → write-array-lts.Need-add-write-pairs (write-array-claims t) (write-array-at t) write-array.Post
 write-array-add-write-pairs t c = omega (
   arith,
   bounds.two-few
-      (c .before .before .before .before .before .before .before .before .before .before .before .before .before .pre .1)
-      (c .before .before .before .before .before .before .before .before .before .count-at .ensures) (omega arith) refl
-      (c .before .before .before .before .before .before .before .before .count2-at .ensures),
+      (c .before .before .before .before .before .before .before .before .before .before .before .before .before .before .pre .1)
+      (c .before .before .before .before .before .before .before .before .before .before .count-at .ensures) (omega arith) refl
+      (c .before .before .before .before .before .before .before .before .before .count2-at .ensures),
 )
 
 write-array-write-pairs-requires : (t : ℕ) → write-array-lts.Need-write-pairs-requires (write-array-claims t) (write-array-at t) write-array.Post
 write-array-write-pairs-requires t c κs = (
   omega (
     arith,
-    c .before .before .before .before .before .before .before .before .before .before .before .before .before .pre .0,
+    c .before .before .before .before .before .before .before .before .before .before .before .before .before .before .pre .0,
   ),
-  c .before .before .before .before .before .before .before .before .before .before .before .before .before .pre .1 .fit,
+  c .before .before .before .before .before .before .before .before .before .before .before .before .before .before .pre .1 .fit,
 )
 
 write-array-enum-known-b : (t : ℕ) → write-array-lts.Need-enum-known-b (write-array-claims t) (write-array-at t) write-array.Post
@@ -191,12 +186,13 @@ write-array-returns-2 : (t : ℕ) → write-array-lts.Need-returns-2 (write-arra
 write-array-returns-2 t c =
     let b7 = c .before .before .before .before .before .before .before in
     let b11 = b7 .before .before .before .before in
-    let b13 = b11 .before .before in
-    let b14 = b13 .before in
-    let b18 = b14 .before .before .before .before in
-    streams.renamed _ _ _ _ _ (sym (nodes.array-is _ _ _ _ (b14 .count-at .ensures) _ (b13 .count2-at .ensures) (b18 .pre .1 .is))) (streams.then-go _
-    _ _ _ _ (b11 .put-head .ensures) (b7 .a .given .1) (streams.then-stop _ _ _ _ _ (c .before .before .before .before .write-pairs .ensures)
-    (c .enum-told2 .given .1)))
+    let b12 = b11 .before in
+    let b14 = b12 .before .before in
+    let b15 = b14 .before in
+    let b19 = b15 .before .before .before .before in
+    streams.renamed _ _ _ _ _ (sym (nodes.array-is _ _ _ _ (b15 .count-at .ensures) _ (b14 .count2-at .ensures) (b19 .pre .1 .is))) (streams.then-go _
+    _ _ _ _ (rw (b12 .size-word .ensures) at (b11 .put-head .ensures)) (b7 .a .given .1) (streams.then-stop _ _ _ _ _
+    (c .before .before .before .before .write-pairs .ensures) (c .enum-told2 .given .1)))
 
 write-array-put-byte-requires : (t : ℕ) → write-array-lts.Need-put-byte-requires (write-array-claims t) (write-array-at t) write-array.Post
 write-array-put-byte-requires t c κs = search needs
@@ -219,21 +215,23 @@ write-array-returns-3 t c =
     let b11 = b7 .before .before .before .before in
     let b14 = b11 .before .before .before in
     let b18 = b14 .before .before .before .before in
-    let b20 = b18 .before .before in
-    let b21 = b20 .before in
-    let b25 = b21 .before .before .before .before in
-    streams.renamed _ _ _ _ _ (sym (nodes.array-is _ _ _ _ (b21 .count-at .ensures) _ (b20 .count2-at .ensures) (b25 .pre .1 .is))) (streams.then-go _
-    _ _ _ _ (b18 .put-head .ensures) (b14 .a .given .1) (streams.then-go _ _ _ _ _ (b11 .write-pairs .ensures) (b7 .b .given .1)
+    let b19 = b18 .before in
+    let b21 = b19 .before .before in
+    let b22 = b21 .before in
+    let b26 = b22 .before .before .before .before in
+    streams.renamed _ _ _ _ _ (sym (nodes.array-is _ _ _ _ (b22 .count-at .ensures) _ (b21 .count2-at .ensures) (b26 .pre .1 .is))) (streams.then-go _
+    _ _ _ _ (rw (b19 .size-word .ensures) at (b18 .put-head .ensures)) (b14 .a .given .1) (streams.then-go _ _ _ _ _ (b11 .write-pairs .ensures)
+    (b7 .b .given .1)
     (streams.then-stop _ _ _ _ _ (c .before .before .before .before .put-byte .ensures) (c .enum-told3 .given .1))))
 
 write-array-add-row-after : (t : ℕ) → write-array-lts.Need-add-row-after (write-array-claims t) (write-array-at t) write-array.Post
 write-array-add-row-after t c = omega (
   arith,
   bounds.two-few
-      (c .before .before .before .before .before .before .before .before .before .before .before .before .before .before .before .before .before .before .before .before .before .before .before .before .before .before .pre .1)
-      (c .before .before .before .before .before .before .before .before .before .before .before .before .before .before .before .before .before .before .before .before .before .before .count-at .ensures)
+      (c .before .before .before .before .before .before .before .before .before .before .before .before .before .before .before .before .before .before .before .before .before .before .before .before .before .before .before .pre .1)
+      (c .before .before .before .before .before .before .before .before .before .before .before .before .before .before .before .before .before .before .before .before .before .before .before .count-at .ensures)
       (omega arith) refl
-      (c .before .before .before .before .before .before .before .before .before .before .before .before .before .before .before .before .before .before .before .before .before .count2-at .ensures),
+      (c .before .before .before .before .before .before .before .before .before .before .before .before .before .before .before .before .before .before .before .before .before .before .count2-at .ensures),
 )
 
 write-array-row-after-requires : (t : ℕ) → write-array-lts.Need-row-after-requires (write-array-claims t) (write-array-at t) write-array.Post
@@ -243,9 +241,9 @@ write-array-write-items-requires : (t : ℕ) → write-array-lts.Need-write-item
 write-array-write-items-requires t c κs = (
   omega (
     arith,
-    c .before .before .before .before .before .before .before .before .before .before .before .before .before .before .before .before .before .before .before .before .before .before .before .before .before .before .before .before .pre .0,
+    c .before .before .before .before .before .before .before .before .before .before .before .before .before .before .before .before .before .before .before .before .before .before .before .before .before .before .before .before .before .pre .0,
   ),
-  c .before .before .before .before .before .before .before .before .before .before .before .before .before .before .before .before .before .before .before .before .before .before .before .before .before .before .before .before .pre .1 .fit,
+  c .before .before .before .before .before .before .before .before .before .before .before .before .before .before .before .before .before .before .before .before .before .before .before .before .before .before .before .before .before .pre .1 .fit,
 )
 
 write-array-same-length-4 : (t : ℕ) → write-array-lts.Need-same-length-4 (write-array-claims t) (write-array-at t) write-array.Post
@@ -263,13 +261,15 @@ write-array-returns-4 t c =
     let b17 = b13 .before .before .before .before in
     let b20 = b17 .before .before .before in
     let b24 = b20 .before .before .before .before in
-    let b26 = b24 .before .before in
-    let b27 = b26 .before in
-    let b31 = b27 .before .before .before .before in
-    streams.renamed _ _ _ _ _ (sym (nodes.array-is _ _ _ _ (b27 .count-at .ensures) _ (b26 .count2-at .ensures) (b31 .pre .1 .is))) (streams.then-go _
-    _ _ _ _ (b24 .put-head .ensures) (b20 .a .given .1) (streams.then-go _ _ _ _ _ (b17 .write-pairs .ensures) (b13 .b .given .1)
+    let b25 = b24 .before in
+    let b27 = b25 .before .before in
+    let b28 = b27 .before in
+    let b32 = b28 .before .before .before .before in
+    streams.renamed _ _ _ _ _ (sym (nodes.array-is _ _ _ _ (b28 .count-at .ensures) _ (b27 .count2-at .ensures) (b32 .pre .1 .is))) (streams.then-go _
+    _ _ _ _ (rw (b25 .size-word .ensures) at (b24 .put-head .ensures)) (b20 .a .given .1) (streams.then-go _ _ _ _ _ (b17 .write-pairs .ensures)
+    (b13 .b .given .1)
     (streams.then-go _ _ _ _ _ (b10 .put-byte .ensures) (b6 .c .given .1)
-    (streams.renamed _ _ _ _ _ (ap (λ (k : ℕ). itemsAt (b31 .args .left) (now (b31 .args .rows)) (now (b31 .args .store)) k (b26 .count2-at .result))
+    (streams.renamed _ _ _ _ _ (ap (λ (k : ℕ). itemsAt (b32 .args .left) (now (b32 .args .rows)) (now (b32 .args .store)) k (b27 .count2-at .result))
     (c .before .before .before .before .row-after .ensures)) (c .before .before .write-items .ensures)))))
 
 abbrev write-dictionary-claims : ℕ → write-dictionary-lts.Claims
@@ -473,8 +473,8 @@ write-object-returns-2 t c =
     let b14 = b13 .before in
     let b18 = b14 .before .before .before .before in
     streams.renamed _ _ _ _ _ (sym (nodes.object-is _ _ _ _ (b14 .count-at .ensures) _ (b13 .count2-at .ensures) (b18 .pre .1 .is))) (streams.then-go
-    _ _ _ _ _ (b11 .put-object-head .ensures _) (b7 .a .given .1) (streams.then-stop _ _ _ _ _
-    (c .before .before .before .before .write-items .ensures) (c .enum-told2 .given .1)))
+    _ _ _ _ _ (b11 .put-object-head .ensures _) (b7 .a .given .1)
+    (streams.then-stop _ _ _ _ _ (c .before .before .before .before .write-items .ensures) (c .enum-told2 .given .1)))
 
 write-object-same-length-3 : (t : ℕ) → write-object-lts.Need-same-length-3 (write-object-claims t) (write-object-at t) write-object.Post
 write-object-same-length-3 t c =
@@ -838,8 +838,8 @@ pub +write-array+write-dictionary+write-items+write-object+write-pairs+write-val
 +write-array+write-dictionary+write-items+write-object+write-pairs+write-value+write-vector-spec =
     close μ-write-array μ-write-dictionary μ-write-items μ-write-object μ-write-pairs μ-write-value μ-write-vector
     (λ t. write-array-lts.spec (write-array-claims t) (write-array-at t) write-array.Post (write-array-count-at-requires t)
-    (write-array-count2-at-requires t) (write-array-mul-put-head t) (write-array-add-put-head t) (write-array-put-head-requires t)
-    (write-array-enum-known-a t) (write-array-enum-told t) (write-array-same-length t) (write-array-returns t) (write-array-add-write-pairs t)
+    (write-array-count2-at-requires t) (write-array-size-word-requires t) (write-array-put-head-requires t) (write-array-enum-known-a t)
+    (write-array-enum-told t) (write-array-same-length t) (write-array-returns t) (write-array-add-write-pairs t)
     (write-array-write-pairs-requires t) (write-array-enum-known-b t) (write-array-enum-told-2 t) (write-array-same-length-2 t)
     (write-array-returns-2 t) (write-array-put-byte-requires t) (write-array-enum-known-c t) (write-array-enum-told-3 t)
     (write-array-same-length-3 t) (write-array-returns-3 t) (write-array-add-row-after t) (write-array-row-after-requires t)

@@ -7,10 +7,9 @@ use Prim.Native.Nat.{ℕ, _*_, _^_, _<_, _≤_}
 use lib.ListN.{length}
 use lib.Signed.{mag}
 use Rattle.utf8.specs.Grammar.{validText}
-use Rattle.format.specs.Standard.{Plain, undefined, null, boolean, integer, double, string, xmlDocument, xml, byteArray, date}
-use Rattle.format.specs.Standard.{intVector, uintVector, doubleVector}
-use Rattle.format.specs.Standard.{Tree, plain, array, object, objectVector, dictionary, Trees, nil, cons, Pairs, noPairs, pair, Entries}
-use Rattle.format.specs.Standard.{noEntries, entry, count, countPairs, countEntries}
+use Rattle.format.specs.Standard.{Plain, undefined, null, boolean, integer, double, string, xmlDocument, xml, byteArray, date, intVector, uintVector}
+use Rattle.format.specs.Standard.{doubleVector, Tree, plain, array, object, objectVector, dictionary, Trees, nil, cons, Pairs, noPairs, pair}
+use Rattle.format.specs.Standard.{Entries, noEntries, entry, count, countPairs, countEntries}
 
 -- a text, valid and not too long
 pub record IsText (t : List ℕ) : Type 0 where
