@@ -91,7 +91,8 @@ typedef struct {
 pb_answer pb_begin(size_t *state, PB_LOANS);
 
 /* Takes the bytes of a piece, in the loans of the beginning. While it waits the loans hold what the bytes so far give. A finished or refused state takes
- * nothing, touches no loan and repeats its answer. A refusal that is new sets all loans to zero. */
+ * nothing, touches no loan and repeats its answer; one that says what no reading can say is as one that was never begun, 12. A refusal that is new sets
+ * all loans to zero. */
 pb_answer pb_feed(size_t *state, PB_LOANS, const uint8_t *piece, size_t piece_len);
 
 /* Declares the end: while waiting this is refusal 2. */

@@ -454,7 +454,7 @@ static void try_class_lengths(void) {
         about("12, a class of %zu letters", past[i]);
         count(wait_in_trait(past[i]) && piece_refused(few, name_word, sizeof name_word, 0, refused(PB_LOST, 0, 0)));
     }
-    about("12, a class of no letters");
+    about("no 12, a class of no letters");
     count(class_within(0));
 }
 

@@ -12,7 +12,7 @@ use Rattle.format.specs.Reading.{finished, refused}
 use Rattle.format.proofs.Reasons.{Lacks, noRow, noStore, noString, noObject, noTrait, noName, reasons-act}
 use Rattle.format.proofs.Reasons as reasons
 use Rattle.format.specs.Refusals as refusals
-pub use Rattle.format.specs.Byte.{RefusedBy, unknown, absent, unfinished, external, undated, malformed, deep, full, astrays}
+pub use Rattle.format.specs.Byte.{RefusedBy, unknown, absent, unfinished, external, undated, invalid, deep, full, astrays}
 
 -- a state after it
 pub data Placed (b p : ℕ) : State → Type 0 where
@@ -38,7 +38,7 @@ module _ {D : Type 0} {E : ℕ → Type 0} (loans : (loan : ℕ) → E loan → 
   refusal-of (reasons.unfinished e) = unfinished e
   refusal-of (reasons.external e) = external e
   refusal-of (reasons.undated e) = undated e
-  refusal-of (reasons.malformed e) = malformed e
+  refusal-of (reasons.malformed e) = invalid e
   refusal-of (reasons.deep d e) = deep e
   refusal-of (reasons.full d e) = full (loans _ d) e
   refusal-of reasons.astrays = astrays

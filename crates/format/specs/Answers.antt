@@ -1,10 +1,9 @@
 -- The public calls: for each, the answer and all that it leaves. The number, told value and place of a refusal stand in the answer as document 01 has them.
-use mathlib.Core.Bool.{Bool, true, false, cond, _||_}
+use mathlib.Core.Bool.{true, false, cond, _||_}
 use mathlib.Core.List.{List, [], _∷_}
 use Prim.Native.Nat.{ℕ, zero, suc, _+_, _*_}
 use lib.Dec.{eqb}
 use lib.ListN.{replicate}
-use Rattle.rows.specs.declared.Cursor.{Cursor}
 use Rattle.rows.specs.Memory.{Memory, fresh, openLimit}
 use Rattle.format.specs.Refusals as no
 use Rattle.format.specs.declared.Answer.{Answer}

@@ -18,7 +18,7 @@ pub data RefusedBy (b p : ℕ) : ℕ → ℕ → ℕ → Type 0 where
   -- an externalizable object; a date of these bits; a text
   external : {place : ℕ} → place ≡ p → RefusedBy b p no.externalizable 0 place
   undated : {bits place : ℕ} → place ≡ p → RefusedBy b p no.badDate bits place
-  malformed : {place : ℕ} → place ≡ p → RefusedBy b p no.badText 0 place
+  invalid : {place : ℕ} → place ≡ p → RefusedBy b p no.badText 0 place
   -- too many are open
   deep : {place : ℕ} → place ≡ p → RefusedBy b p no.tooDeep 0 place
   -- loan 1 to 6 is full

@@ -11,7 +11,6 @@ use Rattle.rows.specs.Memory.{memory, Memory, zeroed, fresh, messageLimit, open
 use Rattle.rows.specs.Memory.{spanWidth, traitWidth, loanStore, loanStrings, loanObjects, loanTraits, rowsMost, storeMost, loanOutput}
 use Rattle.rows.specs.declared.Cursor.{Cursor}
 use Rattle.rows.specs.Kinds.{kindDate}
-use Rattle.wire.specs.declared.Date.the-variants.{Refused}
 use Rattle.wire.specs.Octets.{Bytes}
 use Rattle.format.specs.Reading.{Ended, reading, finished, refused, taken}
 use Rattle.format.specs.Step.{State, over, wait, none, Mode, atMarker}
@@ -175,7 +174,7 @@ pub data EndLeaves (n : Numbers) (m : Memory) (number told place : ℕ) (n′ : 
 
 -- ---- answers
 
--- the answer of a read, and of a write; that of begin, feed and end is Pieces' answerIn
+-- the answer of a read
 abbrev pub readAnswer : Read → Answer
 readAnswer (read a m) = a
 
@@ -209,7 +208,7 @@ usedStore c m = take (c .store) (m .store)
 
 -- not refused for depth
 abbrev pub Shallow : Ended → Type 0
-Shallow e = (told place : ℕ) (m : Memory) → e ≢ refused 9 told place m
+Shallow e = (told place : ℕ) (m : Memory) → e ≢ refused no.tooDeep told place m
 
 -- a reading finished with n bytes taken, and its rows unfold to t
 pub record Returns (e : Ended) (n : ℕ) (t : Tree) : Type 0 where
@@ -227,7 +226,7 @@ pub data Held-just (m : Memory) (t : Tree) (rest : List ℕ) : Bool → Type 0 w
 -- the test passes, or the least faulty row can't be written for its date
 pub data Passes (R : List ℕ) : Tested → Type 0 where
   passes : Passes R fine
-  late : {i : ℕ} → col R i colKind ≡ kindDate → 2 ^ 53 < col R i colNumber → Passes R (faulty 14 i)
+  late : {i : ℕ} → col R i colKind ≡ kindDate → 2 ^ 53 < col R i colNumber → Passes R (faulty no.unwritable i)
 
 -- rows as the code has them: their numbers have 64 bits
 abbrev pub Wide : List ℕ → Type 0

@@ -2,7 +2,7 @@
 -- A decision is a column of refusals in the order in which they come, and then what it gives. It writes at most one loan. Comments name its refusals, 10/n for loan n.
 use mathlib.Core.Bool.{Bool, true, false, cond, not, _&&_}
 use mathlib.Core.List.{List, [], _∷_}
-use Prim.Native.Nat.{ℕ, zero, suc, _+_, _*_, _-_, _/_, _%_}
+use Prim.Native.Nat.{ℕ, zero, suc, _+_, _*_, _-_, _/_}
 use lib.Dec.{leb, ltb, eqb}
 use lib.ListN.{length, getD, set}
 use lib.Seq.{sets}
@@ -57,6 +57,7 @@ namesTo c n = cursor (c .at) (c .rows) (c .store) (c .strings) (c .objects) (c .
 
 -- ---- markers
 
+-- what follows each of them, from undefined to dictionary
 unfoldable pub kindOf : ℕ → Kind
 kindOf b =
     getD (leaf ∷ leaf ∷ leaf ∷ leaf ∷ integer ∷ double ∷ string ∷ sized xml ∷ sized date ∷ sized array ∷ object ∷ sized xml ∷ sized bytes

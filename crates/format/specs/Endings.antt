@@ -3,12 +3,13 @@ use mathlib.Core.Path.{_≡_}
 use mathlib.Core.List.{List, [], _∷_, _++_}
 use Prim.Native.Nat.{ℕ, suc, max, zero, _<_, _≤_}
 use lib.ListN.{length, drop}
-use Rattle.rows.specs.Memory.{openLimit, faultOf, memory}
+use Rattle.rows.specs.Memory.{loanOutput, openLimit, faultOf, memory}
 use Rattle.format.specs.Standard.{Tree, plain, array, object, objectVector, dictionary, Trees, nil, cons, Pairs, noPairs, pair, Entries, noEntries}
 use Rattle.format.specs.Standard.{entry, textBytes, encodePlain, arrayHead, objectHead, vectorHead, dictionaryHead, encode}
 use Rattle.format.specs.Writing.{Wrote, written, unwritten}
 use Rattle.format.specs.Unfold.{unfolded}
 use Rattle.format.specs.RowTest.{fine, faulty, tested}
+use Rattle.format.specs.Refusals as no
 
 -- ---- what the bytes of a value are made of, in order: bytes of its own, and the values in it
 
@@ -97,12 +98,12 @@ pub record Unrefused (R B : List ℕ) : Type 0 where
 -- how a writing of the tree t ends
 pub data Ends (t : Tree) (out : List ℕ) : Wrote → Type 0 where
   whole : depth t ≤ openLimit → length (encode t) ≤ length out → Ends t out (written (length (encode t)) (encode t ++ drop (length (encode t)) out))
-  full : depth t ≤ openLimit → length out < length (encode t) → Ends t out (unwritten 10 7 (length out) out)
-  tooDeep : (x : List ℕ) → First openLimit t x → length x ≤ length out → Ends t out (unwritten 9 0 (length x) out)
-  fullBefore : (x : List ℕ) → First openLimit t x → length out < length x → Ends t out (unwritten 10 7 (length out) out)
+  full : depth t ≤ openLimit → length out < length (encode t) → Ends t out (unwritten no.noRoom loanOutput (length out) out)
+  tooDeep : (x : List ℕ) → First openLimit t x → length x ≤ length out → Ends t out (unwritten no.tooDeep 0 (length x) out)
+  fullBefore : (x : List ℕ) → First openLimit t x → length out < length x → Ends t out (unwritten no.noRoom loanOutput (length out) out)
 
 pub data Outcome (R B out : List ℕ) : Wrote → Type 0 where
-  fault : (n : ℕ) → faultOf (memory R B [] [] [] []) ≡ suc n → Outcome R B out (unwritten 1 (suc n) 0 out)
+  fault : (n : ℕ) → faultOf (memory R B [] [] [] []) ≡ suc n → Outcome R B out (unwritten no.badLoan (suc n) 0 out)
   unfit : (n row : ℕ) → faultOf (memory R B [] [] [] []) ≡ 0 → tested R B ≡ faulty n row → Outcome R B out (unwritten n row 0 out)
   passed : {w : Wrote} → Unrefused R B → Ends (unfolded R B 0) out w → Outcome R B out w
 

@@ -125,7 +125,7 @@ pub data ReadingEnds (bs : List ℕ) : Ended → Type 0 where
   faults : {loan : ℕ} {m : Memory} → loanRows ≤ loan → loan ≤ loanNames → ReadingEnds bs (refused no.badLoan loan 0 m)
   -- 2: the bytes end too soon, and its place is their end
   cut : {place : ℕ} {m : Memory} → place ≡ length bs → place ≤ messageLimit → ReadingEnds bs (refused no.unexpectedEnd 0 place m)
-  -- 3 to 10: a byte b, the last of p that were taken
+  -- 3 to 10, or 12, which no reading says: a byte b, the last of p that were taken
   byte : {number told place : ℕ} {m : Memory} (b p : ℕ) → b < 2 ^ 8 → p ≤ length bs → place ≤ messageLimit → RefusedBy b p number told place
       → ReadingEnds bs (refused number told place m)
   -- 11: as many are taken as may be, and there are more
@@ -139,7 +139,7 @@ pub data Accord (lent : Memory) (bs : List ℕ) : Ended → ResultOf Tables ℕ 
   reads : {c : Cursor} {m : Memory} {t : Tree} {s : Tables} {rest : List ℕ} → bs ≡ take (c .at) bs ++ rest → c .at ≤ length bs
       → unfolded (usedRows c m) (usedStore c m) 0 ≡ t → unfolded (usedRows c m) (m .store) 0 ≡ t → Accord lent bs (finished c m) (ok t s (c .at) rest)
   -- both refuse alike, by a number of the standard's
-  refuses : {n told place : ℕ} {m : Memory} {s : Tables} → 2 ≤ n → n ≤ 8 → Accord lent bs (refused n told place m) (bad n told place s)
+  refuses : {n told place : ℕ} {m : Memory} {s : Tables} → no.unexpectedEnd ≤ n → n ≤ no.badText → Accord lent bs (refused n told place m) (bad n told place s)
   -- a limit is met, or a loan is full, and why
   limited : {n told place : ℕ} {m : Memory} {y : ResultOf Tables ℕ Tree} → Limit lent bs n told place → Accord lent bs (refused n told place m) y
 

@@ -1,5 +1,5 @@
 -- A state as plain numbers, of which any are a state: how they are read, written back, and stepped. What a mode has no use for is not read, and written as 0.
-use mathlib.Core.Bool.{Bool, true, false, cond, not, _&&_, _||_}
+use mathlib.Core.Bool.{Bool, true, false, cond, _&&_, _||_}
 use mathlib.Core.List.{List, [], _∷_}
 use Prim.Native.Nat.{ℕ, zero, suc, _+_, _*_, _-_, _/_, _^_}
 use lib.Dec.{leb, ltb, eqb}
@@ -25,7 +25,7 @@ use Rattle.format.specs.declared.Head.{Head}
 use Rattle.format.specs.declared.Frame.{Frame}
 use Rattle.format.specs.Decide.{classOf, Body, xml, date, array, bytes, raw, objects, dictionary, four, eight}
 use Rattle.format.specs.Reading.{finished, refused}
-use Rattle.format.specs.Step.{Pairing, assoc, dynamics, Use, forString, forKey, forClass, forExternal, forName, forVector, Text, xmlText, tableText}
+use Rattle.format.specs.Step.{assoc, dynamics, Use, forString, forKey, forClass, forExternal, forName, forVector, Text, xmlText, tableText}
 use Rattle.format.specs.Step.{Word, integerWord, objectWord, sizeWord, textWord, Number, doubleBits, dateBits, Flag, rawFlag, objectsFlag, dictionaryFlag}
 use Rattle.format.specs.Step.{Raw, byteArray, rawVector, rawRow, Mode, atMarker, atWord, atNumber, atFlag, atText, atRaw, astray}
 use Rattle.format.specs.Step.{frame, State, wait, over, none, broken, step}
@@ -175,7 +175,7 @@ workOf astray = noWork
 abbrev pub finishable : Cursor → Bool
 finishable c = leb (c .rows) rowsMost && leb (c .store) storeMost
 
--- waiting; finished or refused, as a reading can be; anything else was never begun
+-- waiting; finished or refused, with values in the ranges of a reading's; anything else was never begun
 unfoldable pub stateOf : Numbers → Memory → State
 stateOf n m =
     cond (eqb (n .head .status) statusWaiting) (wait (modeOf (n .head .work)) (framesOf (n .frames) (n .head .depth)) (n .head .cursor) m)
@@ -225,7 +225,7 @@ countsFit c m =
     leb (c .rows) (length (m .rows) / rowWidth) && leb (c .store) (length (m .store)) && leb (c .strings) (length (m .strings) / spanWidth)
     && leb (c .objects) (length (m .objects)) && leb (c .traits) (length (m .traits) / traitWidth) && leb (c .names) (length (m .names) / spanWidth)
 
--- a string's row is used; of a trait in the making its class too, and its first name is at most the next
+-- a string's row is used; of a trait in the making its class too, and its first name is no more than the used names
 unfoldable pub useFits : Cursor → Use → Bool
 useFits c (forString row) = ltb row (c .rows)
 useFits c (forKey (assoc row left done)) = ltb row (c .rows)

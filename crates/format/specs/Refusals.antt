@@ -3,7 +3,7 @@ use mathlib.Core.Bool.{Bool, true, false, cond, _&&_, _||_}
 use Prim.Native.Nat.{ℕ, _^_}
 use lib.Dec.{leb, ltb, eqb}
 use Rattle.wire.specs.Date.{refusedDate}
-use Rattle.rows.specs.Memory.{messageMost, objectsMost, loanRows, loanNames, loanOutput}
+use Rattle.rows.specs.Memory.{messageMost, objectsMost, loanRows, loanNames}
 
 -- ---- the numbers
 
@@ -31,7 +31,7 @@ openObject = 5
 abbrev pub externalizable : ℕ
 externalizable = 6
 
--- a date that is no date
+-- a date that is NaN, infinite, or has its sign bit set
 abbrev pub badDate : ℕ
 badDate = 7
 
@@ -142,7 +142,7 @@ tells n told =
     (cond (eqb n noRoom) (isLoan told)
     ((eqb n externalizable || eqb n badText || eqb n tooDeep) && eqb told 0)))))
 
--- whether some reading refuses so: number, told value and place
+-- whether number, told value and place lie in the ranges of a reading's refusals
 unfoldable pub sayable : ℕ → ℕ → ℕ → Bool
 sayable n told place =
     cond (eqb n badLoan) (isLoan told && eqb place 0)

@@ -8,7 +8,7 @@ use lib.ListN.{length}
 use Rattle.rows.specs.Memory.{colKind, colKeyMark, colKeyBegin, colKeySize, colBodyBegin, colBodySize, colClassMark, colFlag, colNumber, colCount}
 use Rattle.rows.specs.Memory.{colCount2, colEnd}
 use Rattle.rows.specs.Kinds.{kindUndefined, kindBoolean, kindInteger, kindDouble, kindString, kindXmlDocument, kindDate, kindArray, kindObject, kindXml}
-use Rattle.rows.specs.Kinds.{kindByteArray, kindIntVector, kindUintVector, kindDoubleVector, kindObjectVector, kindDictionary, kindReference}
+use Rattle.rows.specs.Kinds.{kindByteArray, kindIntVector, kindDoubleVector, kindObjectVector, kindDictionary, kindReference}
 use Rattle.utf8.specs.Grammar.{validText}
 use Rattle.format.specs.Refusals as no
 use Rattle.format.specs.Standard.{isStar}

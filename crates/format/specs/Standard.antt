@@ -5,7 +5,7 @@ use mathlib.Core.Bool.{Bool, true, false, cond, not}
 use mathlib.Core.List.{List, [], _∷_, _++_}
 use mathlib.Core.Option.{Option, none, some}
 use Prim.Native.Nat.{ℕ, zero, suc, _+_, _*_, _-_, _/_, _%_, _^_}
-use lib.Dec.{leb, ltb, eqb}
+use lib.Dec.{ltb, eqb}
 use lib.IntN.{ℤ, pos}
 use lib.Ieee.{binary64, ofInt, toBits}
 use lib.ListN.{length, getD, set}
@@ -187,7 +187,7 @@ names (suc n) = do
 abbrev pub enterTraits : Traits → Std Traits
 enterTraits t = change t (withTraits t)
 
--- new traits: the class, then the names; they enter their table after the last name [3.12, 2.2]
+-- new traits: the class, then the names; [3.12]; they enter their table after the last name (scope)
 unfoldable pub newTraits : ℕ → ℕ → Std Traits
 newTraits n dynamic = do
   x ← text
@@ -292,7 +292,7 @@ abbrev pub vectorOf : ℕ → Bool → List ℕ → Plain
 vectorOf b fixed t = cond (eqb b 0x0D) (intVector fixed t) (cond (eqb b 0x0E) (uintVector fixed t) (doubleVector fixed t))
 
 -- what a size word n of marker b is followed by: texts and bytes [3.9, 3.13, 3.14], a date's eight bytes [3.10], an array's pairs and values [3.11], a vector's
--- fixed flag and entries [3.15], a dictionary's weak flag, which only 1 sets (scope), and entries [3.16]
+-- fixed flag, which any byte but 0 sets (scope), and entries [3.15], a dictionary's weak flag, which only 1 sets (scope), and entries [3.16]
 unfoldable pub newOf : Std Tree → ℕ → ℕ → Body → ℕ → Std Tree
 newOf value f b k.xml n = do
   t ← chars n

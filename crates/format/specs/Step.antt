@@ -1,9 +1,9 @@
--- The reading byte by byte: what a state waits for, and what the next byte makes of it. The decisions are Reading's, one waiting point at a time:
+-- The reading byte by byte: what a state waits for, and what the next byte makes of it. The decisions are Decide's, one waiting point at a time:
 -- `act` by the mode; then `worded`, `numberDone`, `flagDone`, `textDone`; then `had`, `opened`; then `onward` and `pop`.
 use mathlib.Core.Bool.{Bool, true, false, cond}
 use mathlib.Core.List.{List, [], _∷_}
 use Prim.Native.Nat.{ℕ, zero, suc, _+_, _*_, _-_}
-use lib.Dec.{leb, ltb, eqb}
+use lib.Dec.{leb, eqb}
 use lib.ListN.{length}
 use Rattle.rows.specs.declared.Cursor.{Cursor}
 use Rattle.rows.specs.declared.Span.{Span}
@@ -23,7 +23,7 @@ use Rattle.wire.specs.U29.{partOf, wordMore}
 use Rattle.wire.specs.Word.{sizeOf, shapeOf}
 use Rattle.wire.specs.Big.{digitOf, numberMore}
 use Rattle.utf8.specs.States.{stepOf}
-use Rattle.format.specs.Decide.{Out, stop, give, refuse, lost, Decision, looking, onRows, onStore, onStrings, onObjects, onTraits, onNames, Width}
+use Rattle.format.specs.Decide.{Out, stop, give, lost, Decision, looking, onRows, onStore, onStrings, onObjects, onTraits, onNames, Width}
 use Rattle.format.specs.Decide.{widthOf, Body, xml, date, array, bytes, raw, objects, dictionary, Kind, leaf, integer, double, string, object, sized}
 use Rattle.format.specs.Decide.{kindOf, marker, closed, numbered, integerEnd, dateEnd, bodied, objectClass, vectorClass, fixed, weak, flagged}
 use Rattle.format.specs.Decide.{counted, keyEnd, grown, oldText, reserved, stored, judged, textEnd, entered, referred, oldTrait, traitOf, named, traitEnd}

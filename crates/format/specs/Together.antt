@@ -1,4 +1,4 @@
--- Whether a waiting state holds together: its head's numbers, by what is used.
+-- Whether a waiting state holds together: its head's numbers by what is used; its frames, the tables and a trait in the making.
 use mathlib.Core.Path.{_≡_}
 use mathlib.Core.List.{List, [], _∷_}
 use Prim.Native.Nat.{ℕ, _+_, _*_, _-_, _/_, _^_, _≤_, _<_, suc}

@@ -3,13 +3,13 @@ use mathlib.Core.Bool.{Bool, true, false, cond, not}
 use mathlib.Core.List.{List, [], _∷_}
 use mathlib.Core.Option.{Option, none, some}
 use Prim.Native.Nat.{ℕ, zero, suc, _+_, _*_, _/_}
-use lib.Dec.{leb, ltb, eqb}
+use lib.Dec.{ltb, eqb}
 use lib.ListN.{length, getD, take, drop}
 use Rattle.rows.specs.Memory.{rowWidth, colKind, colKeyBegin, colKeySize, colBodyBegin, colBodySize, colClassMark, colFlag, colNumber, colCount, colCount2}
 use Rattle.rows.specs.Memory.{colEnd}
 use Rattle.rows.specs.Kinds.{kindReference}
 use Rattle.wire.specs.Sign.{ofColumn}
-use Rattle.format.specs.Standard.{Plain, undefined, null, boolean, integer, double, string, xmlDocument, xml, byteArray, date, intVector, uintVector}
+use Rattle.format.specs.Standard.{undefined, null, boolean, integer, double, string, xmlDocument, xml, byteArray, date, intVector, uintVector}
 use Rattle.format.specs.Standard.{doubleVector, Tree, plain, array, object, objectVector, dictionary, Trees, nil, cons, Pairs, noPairs, pair, Entries}
 use Rattle.format.specs.Standard.{noEntries, entry}
 

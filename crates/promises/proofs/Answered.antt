@@ -25,7 +25,7 @@ use Rattle.format.proofs.Tests.{on-bool, is-true, clash}
 use Rattle.format.proofs.Along.{Able}
 use Rattle.format.proofs.Pieces.{answerIn, takenIn, untaken, taken-length, run-still, taken-still, feed-ended, end-ended, feed-nothing, unbegun-nothing}
 use Rattle.format.proofs.Shows.{memoryIn, lengths-run, memory-of, good-sound, good-waits}
-use Rattle.format.proofs.Placed.{RefusedBy, unknown, absent, unfinished, external, undated, malformed, deep, full, astrays, Placed, placed-act}
+use Rattle.format.proofs.Placed.{RefusedBy, unknown, absent, unfinished, external, undated, invalid, deep, full, astrays, Placed, placed-act}
 use Rattle.format.proofs.Placed as placed
 use Rattle.promises.proofs.Stands.{Stands, waits, finishes, faulty, declines, passes, forgets, placeOf, Any, every-any, every-octet}
 use Rattle.promises.proofs.Stands.{stands-going, on-finished, on-refused, able-act, able-finishes, able-says, long-said, loan-said, fault-most}
@@ -297,7 +297,7 @@ only-lost m (absent e) q = clash cc
 only-lost m (unfinished e) q = clash cc
 only-lost m (external e) q = clash cc
 only-lost m (undated e) q = clash cc
-only-lost m (malformed e) q = clash cc
+only-lost m (invalid e) q = clash cc
 only-lost m (deep e) q = clash cc
 only-lost m (full h e) q = clash cc
 only-lost m astrays q = (m, refl)

@@ -17,7 +17,7 @@ use Rattle.format.specs.Answers.{answerOf, answered, runHeld, cost, costFrom, s
 use Rattle.format.proofs.Tests.{clash}
 use Rattle.format.proofs.Cuts.{joined}
 use Rattle.format.proofs.Pieces.{answerIn, takenIn, fedBy, fedPieces, tally, taken-pieces, run-still, taken-still}
-use Rattle.format.proofs.Placed.{RefusedBy, unknown, absent, unfinished, external, undated, malformed, deep, full, astrays}
+use Rattle.format.proofs.Placed.{RefusedBy, unknown, absent, unfinished, external, undated, invalid, deep, full, astrays}
 use Rattle.promises.proofs.Stands.{Stands, waits, finishes, faulty, declines, passes, forgets, Any, every-any, stands-byte, stands-run}
 use Rattle.format.specs.Refusals as refusals
 pub use Rattle.format.specs.Claims.{lastByte}
@@ -143,7 +143,7 @@ decided-state b p k t o (declines c l y (absent e) j z) q w = refuses (absent (u
 decided-state b p k t o (declines c l y (unfinished e) j z) q w = refuses (unfinished (up q e))
 decided-state b p k t o (declines c l y (external e) j z) q w = refuses (external (up q e))
 decided-state b p k t o (declines c l y (undated e) j z) q w = refuses (undated (up q e))
-decided-state b p k t o (declines c l y (malformed e) j z) q w = refuses (malformed (up q e))
+decided-state b p k t o (declines c l y (invalid e) j z) q w = refuses (invalid (up q e))
 decided-state b p k t o (declines c l y (deep e) j z) q w = refuses (deep (up q e))
 decided-state b p k t o (declines c l y (full h e) j z) q w = refuses (full h (up q e))
 decided-state b p k t o (declines c l y astrays j z) q w = refuses astrays

@@ -26,7 +26,7 @@ use Rattle.format.proofs.Shows.{shows-run, shows-begin, memory-of}
 use Rattle.format.proofs.Pieces.{answerIn, fedBy, fedPieces, tally, endBy, endRead, unread, feeding-calls}
 use Rattle.format.proofs.Meaning.{never-lost}
 use Rattle.format.proofs.Feeding.{waits-reading}
-use Rattle.format.proofs.Placed.{unknown, absent, unfinished, external, undated, malformed, deep, full, astrays}
+use Rattle.format.proofs.Placed.{unknown, absent, unfinished, external, undated, invalid, deep, full, astrays}
 use Rattle.promises.proofs.Stands.{Stands, waits, finishes, faulty, declines, passes, forgets, Any, every-any, Octet, every-byte}
 use Rattle.promises.proofs.Stands.{stands-begin, stands-run}
 use Rattle.promises.proofs.Counted.{Waits, waits-all, run-append, pieces-are, fed-is, answer-in, tally-is, answer-waits, waits-answer, lastByte}
@@ -95,7 +95,7 @@ place-at s i n told place k (declines b m y (absent e) h z) q f g = cc
 place-at s i n told place k (declines b m y (unfinished e) h z) q f g = cc
 place-at s i n told place k (declines b m y (external e) h z) q f g = cc
 place-at s i n told place k (declines b m y (undated e) h z) q f g = cc
-place-at s i n told place k (declines b m y (malformed e) h z) q f g = cc
+place-at s i n told place k (declines b m y (invalid e) h z) q f g = cc
 place-at s i n told place k (declines b m y (deep e) h z) q f g = cc
 place-at s i n told place k (declines b m y (full t e) h z) q f g = cc
 place-at s i n told place k (declines b m y astrays h z) q f g = absurd (g cc)
@@ -113,7 +113,7 @@ limit-at s i told place k (declines b m y (absent e) h z) q = clash cc
 limit-at s i told place k (declines b m y (unfinished e) h z) q = clash cc
 limit-at s i told place k (declines b m y (external e) h z) q = clash cc
 limit-at s i told place k (declines b m y (undated e) h z) q = clash cc
-limit-at s i told place k (declines b m y (malformed e) h z) q = clash cc
+limit-at s i told place k (declines b m y (invalid e) h z) q = clash cc
 limit-at s i told place k (declines b m y (deep e) h z) q = clash cc
 limit-at s i told place k (declines b m y (full t e) h z) q = clash cc
 limit-at s i told place k (declines b m y astrays h z) q = clash cc

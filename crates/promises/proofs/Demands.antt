@@ -1,28 +1,28 @@
 -- The three demands, sentence by sentence, each with its theorem. The proofs stand in crate format, beside the definitions that they speak of, and in this one.
 -- Where a theorem refuses a wrong program that keeps the others, it says so.
 use mathlib.Core.Path.{_≡_}
-use mathlib.Core.Bool.{true}
+use mathlib.Core.Bool.{true, false}
 use mathlib.Core.Logic.{_≢_}
 use mathlib.Core.List.{List, [], _∷_, _++_}
 use Prim.Native.Nat.{ℕ, suc, _+_, _*_, _^_, _≤_, _<_}
 use lib.Dec.{T}
 use lib.ListN.{length, take, drop, replicate}
 use Rattle.rows.specs.declared.Cursor.{Cursor}
-use Rattle.rows.specs.Memory.{Memory, fresh, zeroed, faultOf, messageLimit, openLimit, noKey}
+use Rattle.rows.specs.Memory.{Memory, fresh, zeroed, faultOf, rowsFault, messageLimit, openLimit, noKey, colKind, colBodyBegin, colBodySize}
 use Rattle.format.specs.Refusals as no
 use Rattle.format.specs.declared.Answer.{Answer}
 use Rattle.format.specs.declared.Answer.the-variants.{Waiting, Finished, Refused}
-use Rattle.format.specs.declared.Written.the-variants.{Bytes as Written}
+use Rattle.format.specs.declared.Written.the-variants.{Bytes as Written, Unwritten}
 use Rattle.format.specs.declared.Frame.{Frame}
 use Rattle.format.specs.Reading as reader
 use Rattle.format.specs.Reading.{ok, bad, Ended, finished, refused, ended, unlessFault, reading, taken}
 use Rattle.format.specs.Step.{Mode, wait, over, none, act, end, run, begin}
 use Rattle.format.specs.Numbers.{Numbers, stateOf, lentOf, frameWidth}
-use Rattle.format.specs.Answers.{Fed, fed, answerOf, beginCall, feedCall, endCall, read, readCall, output, writeCall}
+use Rattle.format.specs.Answers.{Fed, fed, answerOf, beginCall, feedCall, endCall, read, readCall, output, writeCall, textCall}
 use Rattle.format.specs.Standard.{Tables, Tree, noTables, value, standard, encode}
-use Rattle.format.specs.Unfold.{unfolded, rowsIn}
+use Rattle.format.specs.Unfold.{col, home, part, unfolded, rowsIn}
 use Rattle.format.specs.Holds.{canHold}
-use Rattle.format.specs.RowTest.{tested}
+use Rattle.format.specs.RowTest.{hasText, tested}
 use Rattle.format.specs.Writing.{written, unwritten, writing}
 use Rattle.wire.specs.Octets.{Bytes}
 use Rattle.format.specs.Claims.{joined, answerIn, takenIn, untaken, fedBy, fedPieces, tally, untook, endBy, endRead, unread, firstNumbers, refusedNumbers}
@@ -54,6 +54,7 @@ use Rattle.promises.proofs.Together as together
 use Rattle.promises.proofs.Lookups as lookups
 use Rattle.promises.proofs.Ranges as ranges
 use Rattle.promises.proofs.Ample as ample
+use Rattle.promises.proofs.Ties as ties
 use Rattle.promises.proofs.Roomy as roomy
 use Rattle.promises.proofs.Trips as trips
 
@@ -103,6 +104,10 @@ pub unbegun-lost : (state : Numbers) (m : Memory) (b : ℕ) (bs : List ℕ) → 
     → feedCall state m (b ∷ bs) ≡ fed (Refused no.lost 0 0 0) (lostNumbers state) (zeroed m)
 unbegun-lost = answered.unbegun-lost
 
+-- and so at the end
+pub unbegun-at-end : (state : Numbers) (m : Memory) → stateOf state m ≡ none m → endCall state m ≡ fed (Refused no.lost 0 0 0) (lostNumbers state) (zeroed m)
+unbegun-at-end = answered.end-unbegun
+
 -- a waiting state that doesn't hold together gets 12 at its next byte, which isn't taken. Refuses: an unsound state that swallows its byte and waits on
 pub apart-lost : (state : Numbers) (m : Memory) (b : ℕ) (bs : List ℕ) (x : Mode) (ts : List Frame) (c : Cursor) → stateOf state m ≡ wait x ts c m
     → (Together (state .head .lent) x ts c m → ⊥) → feedCall state m (b ∷ bs) ≡ fed (Refused no.lost 0 0 0) (lostNumbers state) (zeroed m)
@@ -113,7 +118,7 @@ pub together-never-12 : (state : Numbers) (m : Memory) (b : ℕ) (x : Mode) (ts 
     → HoldsTogether (state .head .lent) x ts c m → (told place k : ℕ) → answerIn (feedCall state m (b ∷ [])) ≢ Refused no.lost told place k
 together-never-12 = lookups.together-never-lost
 
--- one whose head does gets it only where what the frames and the tables hold doesn't fit what was read
+-- of one whose head does, a 12 is the step's own
 pub together-lost : (state : Numbers) (m : Memory) (b : ℕ) (x : Mode) (ts : List Frame) (c : Cursor) → b < 2 ^ 8 → stateOf state m ≡ wait x ts c m
     → Together (state .head .lent) x ts c m → (told place k : ℕ) → answerIn (feedCall state m (b ∷ [])) ≡ Refused no.lost told place k
     → (l : Memory) × (act x b ts (taken c) m ≡ over (refused no.lost 0 0 l))
@@ -157,6 +162,40 @@ refused-writing = writes.refused
 
 -- ======== 2. Meaning
 
+-- the calls are of the reading and the writing that the theorems below speak of: a finished read tells rows and store bytes used, and bytes taken
+pub read-finished : (m : Memory) (bytes : List ℕ) (c : Cursor) (k : Memory) → reading m bytes ≡ finished c k
+    → readCall m bytes ≡ read (Finished (c .rows) (c .store) (c .at)) k
+read-finished = ties.read-finished
+
+-- a refused one its refusal. Refuses: a read that finishes everything as null, whatever the reading
+pub read-refused : (m : Memory) (bytes : List ℕ) (n told place : ℕ) (k : Memory) → reading m bytes ≡ refused n told place k
+    → readCall m bytes ≡ read (Refused n told place 0) k
+read-refused = ties.read-refused
+
+-- an accepted write reports its bytes, and a refused one its refusal. Refuses: a write that refuses everything, whatever the writing
+pub write-accepted : (R B out P : List ℕ) (n : ℕ) → writing R B out ≡ written n P → writeCall R B out ≡ output (Written n) P
+write-accepted = ties.write-accepted
+
+pub write-refused : (R B out P : List ℕ) (n told place : ℕ) → writing R B out ≡ unwritten n told place P → writeCall R B out ≡ output (Unwritten n told place) P
+write-refused = ties.write-refused
+
+-- text gives the part of the store that a row, or the target of a reference, says. Refuses: a text that always gives the default
+pub text-there : (R B : List ℕ) (i : ℕ) (default : List ℕ) → rowsFault R B ≡ 0 → hasText (col R (home R i) colKind) ≡ true
+    → col R (home R i) colBodyBegin + col R (home R i) colBodySize ≤ length B
+    → textCall R B i default ≡ part B (col R (home R i) colBodyBegin) (col R (home R i) colBodySize)
+text-there = ties.text-there
+
+-- and the default where a loan is faulty, the row has no text, or its span is past the store
+pub text-faulty : (R B : List ℕ) (i : ℕ) (default : List ℕ) → (rowsFault R B ≡ 0 → ⊥) → textCall R B i default ≡ default
+text-faulty = ties.text-faulty
+
+pub text-none : (R B : List ℕ) (i : ℕ) (default : List ℕ) → rowsFault R B ≡ 0 → hasText (col R (home R i) colKind) ≡ false → textCall R B i default ≡ default
+text-none = ties.text-none
+
+pub text-past : (R B : List ℕ) (i : ℕ) (default : List ℕ) → rowsFault R B ≡ 0 → hasText (col R (home R i) colKind) ≡ true
+    → length B < col R (home R i) colBodyBegin + col R (home R i) colBodySize → textCall R B i default ≡ default
+text-past = ties.text-past
+
 -- "Reading means what Adobe's AMF 3 Specification says, proved": both finish after as many bytes with the same unfolded tree, both refuse alike (2 to 8), or the
 -- reading meets a limit or a loan (9 to 11). Refuses: a trait index by eight, in wire, code and definitions alike
 pub reading-means : (m : Memory) (bytes : List ℕ) → Bytes bytes → faultOf m ≡ 0 → Accord m bytes (reading m bytes) (standard bytes)
@@ -169,6 +208,10 @@ standard-kept = meaning.standard-kept
 -- the limits: 9 and 10 have the place of a byte, 10 a loan, and 11 only where as many bytes are taken as may be and there are more
 pub reading-ends : (m : Memory) (bytes : List ℕ) → Bytes bytes → ReadingEnds bytes (reading m bytes)
 reading-ends = ranges.reading-named
+
+-- and no reading finishes past the limit
+pub finished-within : (m : Memory) (bytes : List ℕ) (c : Cursor) (k : Memory) → reading m bytes ≡ finished c k → c .at ≤ messageLimit
+finished-within = ties.finished-within
 
 -- enough is enough: what the standard finishes, the loans can hold and isn't too deep, is read, with references and long forms too. Refuses: every trait reference
 -- refused with 10, loan 5

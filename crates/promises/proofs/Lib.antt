@@ -6,7 +6,6 @@ pub mod Brief
 -- Enough room is enough, and more changes nothing but 10.
 pub mod Ample
 pub mod Roomy
--- What each call may answer and leave: definitions only.
 -- On any state: refusals have their places, bytes their counts, answers their names.
 pub mod Stands
 pub mod Counted
@@ -17,5 +16,7 @@ pub mod Lookups
 pub mod Ranges
 -- The round trip through the calls.
 pub mod Trips
+-- What each call is of.
+pub mod Ties
 -- The demands.
 pub mod Demands

@@ -29,7 +29,7 @@ use Rattle.format.proofs.Feeding.{feeding}
 use Rattle.format.proofs.Shows.{shows-run, shows-begin, good-along, good-waits}
 use Rattle.format.proofs.Pieces.{answerIn}
 use Rattle.format.proofs.Meaning.{never-lost}
-use Rattle.format.proofs.Placed.{RefusedBy, unknown, absent, unfinished, external, undated, malformed, deep, full as fullLoan, astrays}
+use Rattle.format.proofs.Placed.{RefusedBy, unknown, absent, unfinished, external, undated, invalid, deep, full as fullLoan, astrays}
 use Rattle.promises.proofs.Stands.{Stands, waits, finishes, faulty as faultyLoan, declines, passes, forgets, Octet, every-byte, fault-most}
 use Rattle.promises.proofs.Stands.{stands-begin, stands-run}
 use Rattle.promises.proofs.Counted.{Waits, waits-all}
@@ -232,7 +232,7 @@ refusal-place (absent e) = omega arith
 refusal-place (unfinished e) = omega arith
 refusal-place (external e) = omega arith
 refusal-place (undated e) = omega arith
-refusal-place (malformed e) = omega arith
+refusal-place (invalid e) = omega arith
 refusal-place (deep e) = omega arith
 refusal-place (fullLoan t e) = omega arith
 refusal-place astrays = omega arith

@@ -22,7 +22,7 @@ use Rattle.format.proofs.Tests.{on-bool, is-true}
 use Rattle.format.proofs.Kept.{holds-finishable}
 use Rattle.format.proofs.Along.{Able, completes, rejects, able-step, good-able}
 use Rattle.format.proofs.Shows.{good-sound, good-waits}
-use Rattle.format.proofs.Placed.{RefusedBy, unknown, absent, unfinished, external, undated, malformed, deep, full, astrays, placed-act, Placed}
+use Rattle.format.proofs.Placed.{RefusedBy, unknown, absent, unfinished, external, undated, invalid, deep, full, astrays, placed-act, Placed}
 use Rattle.format.proofs.Placed as placed
 use Rattle.format.specs.Claims.{Going, waiting, unbegun}
 use Rattle.format.specs.Refusals as refusals
@@ -85,7 +85,7 @@ after-said {b} k y h (absent e) z = rw add-one (declines b k y (absent e) (omega
 after-said {b} k y h (unfinished e) z = rw add-one (declines b k y (unfinished e) (omega arith) z)
 after-said {b} k y h (external e) z = rw add-one (declines b k y (external e) (omega arith) z)
 after-said {b} k y h (undated e) z = rw add-one (declines b k y (undated e) (omega arith) z)
-after-said {b} k y h (malformed e) z = rw add-one (declines b k y (malformed e) (omega arith) z)
+after-said {b} k y h (invalid e) z = rw add-one (declines b k y (invalid e) (omega arith) z)
 after-said {b} k y h (deep e) z = rw add-one (declines b k y (deep e) (omega arith) z)
 after-said {b} k y h (full t e) z = rw add-one (declines b k y (full t e) (omega arith) z)
 after-said {b} k y h astrays z = declines b k y astrays (omega arith) z

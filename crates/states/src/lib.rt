@@ -120,7 +120,7 @@ fn body_fits(c: Cursor, w: Work) -> bool
     span_fits(c, w)
 }
 
-// A trait in the making: its row and its class are used, and its first name is at most the next.
+// A trait in the making: its row and its class are used, and its first name is no more than the used names.
 fn name_fits(c: Cursor, w: Work) -> bool
     ensures { λ r. ⌜ r ≡ (ltb (w .row) (c .rows) && leb (w .kind .begin + w .kind .size) (c .store) && leb (w .kind .first) (c .names)) ⌝ }
 {

@@ -1,0 +1,86 @@
+-- What the calls are of: read of the reading, write of the writing, text of the row's part of the store; and a finished reading stays within the limit.
+use mathlib.Core.Path.{_≡_, ap, _∙_}
+use mathlib.Core.Bool.{true, false}
+use mathlib.Core.List.{List}
+use Prim.Native.Nat.{ℕ, _+_, _≤_, _<_}
+use native.Mathlib.Omega.{arith}
+use borrow.Author.Tests.{le-leb, lt-leb, ne-eqb}
+use lib.ListN.{length}
+use Rattle.rows.specs.declared.Cursor.{Cursor}
+use Rattle.rows.specs.Memory.{Memory, rowsFault, messageLimit, colKind, colBodyBegin, colBodySize}
+use Rattle.format.specs.declared.Answer.the-variants.{Finished, Refused}
+use Rattle.format.specs.declared.Lent.{Lent}
+use Rattle.format.specs.declared.Written.the-variants.{Bytes as Wrote, Unwritten}
+use Rattle.format.specs.Reading.{finished, refused, reading}
+use Rattle.format.specs.Step.{State, run, end, begin}
+use Rattle.format.specs.Answers.{read, readOf, readCall, output, writtenOf, writeCall, textCall}
+use Rattle.format.specs.Unfold.{col, home, part}
+use Rattle.format.specs.RowTest.{hasText}
+use Rattle.format.specs.Text.{textSpan, textOr}
+use Rattle.format.specs.Writing.{written, unwritten, writing}
+use Rattle.format.proofs.Tests.{clash}
+use Rattle.format.proofs.Along.{Able, awaits, completes, rejects}
+use Rattle.format.proofs.Shows.{able-along}
+use Rattle.format.proofs.Feeding.{feeding}
+
+-- ---- read
+
+-- a finished reading: rows and store bytes used, bytes taken, and the loans
+pub read-finished : (m : Memory) (bs : List ℕ) (c : Cursor) (k : Memory) → reading m bs ≡ finished c k
+    → readCall m bs ≡ read (Finished (c .rows) (c .store) (c .at)) k
+unfolding readCall
+read-finished m bs c k e = ap readOf e
+
+-- a refused one
+pub read-refused : (m : Memory) (bs : List ℕ) (n told place : ℕ) (k : Memory) → reading m bs ≡ refused n told place k
+    → readCall m bs ≡ read (Refused n told place 0) k
+unfolding readCall
+read-refused m bs n told place k e = ap readOf e
+
+-- the place of what ends so
+within-able : {B : Type 0} {lent : Lent} {at : ℕ} {c : Cursor} {k : Memory} (s : State) → Able B lent at s → end s ≡ finished c k → c .at ≤ messageLimit
+unfolding end
+within-able {c = c} s (awaits h f u v) e = clash cc
+within-able {c = c} s (completes {c = d} h) e = let q : d ≡ c = cc in let l : d .at ≤ messageLimit = omega (arith, h .place, h .within) in rw q at l
+within-able {c = c} s (rejects t h z) e = clash cc
+
+-- no more bytes are taken than a message has
+pub finished-within : (m : Memory) (bs : List ℕ) (c : Cursor) (k : Memory) → reading m bs ≡ finished c k → c .at ≤ messageLimit
+finished-within m bs c k e = within-able (run (begin m) bs) (able-along m bs) (feeding m bs ∙ e)
+
+-- ---- write
+
+-- an accepted writing: the bytes reported, and the output
+pub write-accepted : (R B out P : List ℕ) (n : ℕ) → writing R B out ≡ written n P → writeCall R B out ≡ output (Wrote n) P
+unfolding writeCall
+write-accepted R B out P n e = ap writtenOf e
+
+-- a refused one
+pub write-refused : (R B out P : List ℕ) (n told place : ℕ) → writing R B out ≡ unwritten n told place P → writeCall R B out ≡ output (Unwritten n told place) P
+unfolding writeCall
+write-refused R B out P n told place e = ap writtenOf e
+
+-- ---- text
+
+module _ (R B : List ℕ) (i : ℕ) (default : List ℕ) where
+  -- the part of the store that the row, or the target of a reference, says
+  pub text-there : rowsFault R B ≡ 0 → hasText (col R (home R i) colKind) ≡ true → col R (home R i) colBodyBegin + col R (home R i) colBodySize ≤ length B
+      → textCall R B i default ≡ part B (col R (home R i) colBodyBegin) (col R (home R i) colBodySize)
+  unfolding textOr textSpan
+  text-there f k l = rw (f, k, le-leb (col R (home R i) colBodyBegin + col R (home R i) colBodySize) (length B) l)
+
+  -- the default, where a loan is faulty
+  pub text-faulty : (rowsFault R B ≡ 0 → ⊥) → textCall R B i default ≡ default
+  unfolding textOr textSpan
+  text-faulty n = rw (ne-eqb (rowsFault R B) 0 n)
+
+  -- where the row has no text
+  pub text-none : rowsFault R B ≡ 0 → hasText (col R (home R i) colKind) ≡ false → textCall R B i default ≡ default
+  unfolding textOr textSpan
+  text-none f k = rw (f, k)
+
+  -- and where its span is past the store
+  pub text-past : rowsFault R B ≡ 0 → hasText (col R (home R i) colKind) ≡ true → length B < col R (home R i) colBodyBegin + col R (home R i) colBodySize
+      → textCall R B i default ≡ default
+  unfolding textOr textSpan
+  text-past f k l = rw (f, k, lt-leb (col R (home R i) colBodyBegin + col R (home R i) colBodySize) (length B) l)
