@@ -18,4 +18,5 @@ pub mod Byte
 pub mod Claims
 pub mod Limits
 pub mod Together
+pub mod Strays
 pub mod Endings

@@ -137,11 +137,15 @@ pub data TaskCode : ℕ → Type 0 where
   keysTask : TaskCode taskKeys
   valuesTask : TaskCode taskValues
 
--- a frame's row is used, and each of its finished entries has a row; of sealed members the one after that in work, if any is left, has a used name
-pub record FrameFits (f : Frame) (c : Cursor) : Type 0 where
+-- a frame's row is used, and each of its finished entries has a row
+pub record FrameIn (f : Frame) (c : Cursor) : Type 0 where
   pub code : TaskCode (f .task)
   pub here : RowIn (f .row) c
   pub counted : f .done < c .rows
+
+-- and of sealed members the one after that in work, if any is left, has a used name
+pub record FrameFits (f : Frame) (c : Cursor) : Type 0 where
+  pub reads : FrameIn f c
   pub next : f .task ≡ taskMembers → 0 < f .left → f .first + suc (f .done) < c .names
 
 -- every frame
@@ -157,10 +161,17 @@ TraitIn t c = SpanIn (classOf t) c × (t .first + t .count ≤ c .names)
 abbrev pub TraitsFit : Cursor → Memory → Type 0
 TraitsFit c m = (i : ℕ) → i < c .traits → TraitIn (traitAt (m .traits) i) c
 
--- what the used entries of the tables hold: strings and names spans of the used store, objects used rows that end in the used rows, traits what is used
+-- an object by number: its row is used, and that row ends in the used rows; a name by number: it is used, and so is its span
+abbrev pub ObjectIn : ℕ → Cursor → Memory → Type 0
+ObjectIn i c m = RowIn (getD (m .objects) i 0) c × (cell (m .rows) (getD (m .objects) i 0) colEnd ≤ c .rows)
+
+abbrev pub NameIn : ℕ → Cursor → Memory → Type 0
+NameIn i c m = (i < c .names) × SpanIn (spanAt (m .names) i) c
+
+-- what the used entries of the tables hold lies in what is used
 pub record EntriesFit (c : Cursor) (m : Memory) : Type 0 where
   pub strings : (i : ℕ) → i < c .strings → SpanIn (spanAt (m .strings) i) c
-  pub objects : (i : ℕ) → i < c .objects → RowIn (getD (m .objects) i 0) c × (cell (m .rows) (getD (m .objects) i 0) colEnd ≤ c .rows)
+  pub objects : (i : ℕ) → i < c .objects → ObjectIn i c m
   pub traits : TraitsFit c m
   pub names : (i : ℕ) → i < c .names → SpanIn (spanAt (m .names) i) c
 
