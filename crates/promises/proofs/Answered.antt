@@ -7,7 +7,7 @@ use mathlib.Core.List.{List, [], _∷_}
 use Prim.Native.Nat.{ℕ, suc, _+_, _*_, _^_, _≤_, _<_}
 use native.Mathlib.Omega.{arith}
 use lib.Dec.{leb}
-use borrow.Author.Tests.{leb-true}
+use borrow.Author.Tests.{leb-true, leb-false, lt-leb}
 use lib.ListN.{length, replicate, length-replicate}
 use Rattle.rows.specs.declared.Cursor.{Cursor}
 use Rattle.rows.specs.Memory.{Memory, fresh, zeros, zeroed, faultOf, messageLimit, openLimit, noKey, loanNames}
@@ -17,7 +17,7 @@ use Rattle.format.specs.declared.Answer.the-variants.{Waiting, Finished, Refuse
 use Rattle.format.specs.declared.Lent.{Lent}
 use Rattle.format.specs.declared.Frame.{Frame}
 use Rattle.format.specs.Reading.{Ended, finished, refused, taken}
-use Rattle.format.specs.Step.{Mode, atMarker, State, wait, over, none, broken, act, step, end, begin}
+use Rattle.format.specs.Step.{Mode, atMarker, State, wait, over, none, act, step, end, begin}
 use Rattle.format.specs.Numbers.{Numbers, Held, held, head, noWork, lentOf, workOf, laid, stateOf, numbersOf, memoryOf, afterStep, byteStep, sound}
 use Rattle.format.specs.Numbers.{soundStep}
 use Rattle.format.specs.Answers.{fed, answerOf, answered, beginCall, runHeld, costFrom, stateIn, takenBy, feedCall, endOf, endCall}
@@ -249,9 +249,9 @@ answered-repeats n m piece a n′ m′ e w l k part = of (runHeld (held n m) pie
 -- ---- altered states
 
 -- the numbers of a state that did not hold together
-broken-numbers : (n : Numbers) (m : Memory) → afterStep n (broken m) ≡ held (lostNumbers n) (zeroed m)
+broken-numbers : (n : Numbers) (l : Memory) → afterStep n (over (refused refusals.lost 0 0 l)) ≡ held (lostNumbers n) l
 unfolding afterStep numbersOf
-broken-numbers n m = refl
+broken-numbers n l = refl
 
 -- 12 takes no byte
 free : (s : State) (k : Memory) → costFrom s (over (refused refusals.lost 0 0 k)) ≡ 0
@@ -259,35 +259,44 @@ free (wait x ts c m) k = refl
 free (over e) k = refl
 free (none m) k = refl
 
--- a state of which the test fails is refused before anything else, and so is one that was never begun
-lost-run : (n : Numbers) (m : Memory) (b : ℕ) (bs : List ℕ) → byteStep b (held n m) ≡ afterStep n (broken m)
-    → feedCall n m (b ∷ bs) ≡ fed (Refused refusals.lost 0 0 0) (lostNumbers n) (zeroed m)
+-- a byte that is refused by 12 isn't taken, and the bytes after it aren't
+lost-run : (n : Numbers) (m : Memory) (b : ℕ) (bs : List ℕ) (l : Memory) → byteStep b (held n m) ≡ afterStep n (over (refused refusals.lost 0 0 l))
+    → feedCall n m (b ∷ bs) ≡ fed (Refused refusals.lost 0 0 0) (lostNumbers n) l
 unfolding feedCall runHeld takenBy stateOf refusals.sayable
-lost-run n m b bs e =
-    let q : byteStep b (held n m) ≡ held (lostNumbers n) (zeroed m) = e ∙ broken-numbers n m in
-    let r = run-still (lostNumbers n) (zeroed m) (refused refusals.lost 0 0 (zeroed m)) refl bs in
-    let t = taken-still (lostNumbers n) (zeroed m) (refused refusals.lost 0 0 (zeroed m)) refl bs in
-    let z : costFrom (stateOf n m) (stateIn (held (lostNumbers n) (zeroed m))) ≡ 0 = free (stateOf n m) (zeroed m) in
+lost-run n m b bs l e =
+    let q : byteStep b (held n m) ≡ held (lostNumbers n) l = e ∙ broken-numbers n l in
+    let r = run-still (lostNumbers n) l (refused refusals.lost 0 0 l) refl bs in
+    let t = taken-still (lostNumbers n) l (refused refusals.lost 0 0 l) refl bs in
+    let z : costFrom (stateOf n m) (stateIn (held (lostNumbers n) l)) ≡ 0 = free (stateOf n m) l in
     rw (q, r, t, z)
 
--- the test fails
+-- a state of which the test fails is refused before anything else
 pub unsound-lost : (n : Numbers) (m : Memory) (b : ℕ) (bs : List ℕ) (x : Mode) (ts : List Frame) (c : Cursor) → stateOf n m ≡ wait x ts c m
     → sound (n .head .lent) x ts c m ≡ false
     → feedCall n m (b ∷ bs) ≡ fed (Refused refusals.lost 0 0 0) (lostNumbers n) (zeroed m)
 unfolding byteStep soundStep
-unsound-lost n m b bs x ts c e f = lost-run n m b bs (rw (e, f))
+unsound-lost n m b bs x ts c e f = lost-run n m b bs (zeroed m) (rw (e, f))
 
--- it was never begun
+-- so is one that was never begun
 pub unbegun-lost : (n : Numbers) (m : Memory) (b : ℕ) (bs : List ℕ) → stateOf n m ≡ none m
     → feedCall n m (b ∷ bs) ≡ fed (Refused refusals.lost 0 0 0) (lostNumbers n) (zeroed m)
 unfolding byteStep
-unbegun-lost n m b bs e = lost-run n m b bs (rw e)
+unbegun-lost n m b bs e = lost-run n m b bs (zeroed m) (rw e)
+
+-- and one that passes its test where the byte's own step is 12
+pub step-lost : (n : Numbers) (m : Memory) (b : ℕ) (bs : List ℕ) (x : Mode) (ts : List Frame) (c : Cursor) (l : Memory) → stateOf n m ≡ wait x ts c m
+    → sound (n .head .lent) x ts c m ≡ true → c .at < messageLimit → act x b ts (taken c) m ≡ over (refused refusals.lost 0 0 l)
+    → feedCall n m (b ∷ bs) ≡ fed (Refused refusals.lost 0 0 0) (lostNumbers n) (zeroed m)
+unfolding byteStep soundStep step
+step-lost n m b bs x ts c l e f g r =
+    let q = lost-run n m b bs l (rw (e, f, lt-leb messageLimit (c .at) g, r)) in
+    rw (feed-wipes n m b bs refusals.lost 0 0 0 (lostNumbers n) l (rw e waiting) q) at q
 
 -- and the other way round: a byte is refused by 12 only if the state was never begun, or the test fails, or what the loans hold doesn't fit what was read
 pub data Lost (n : Numbers) (m : Memory) (b : ℕ) : Type 0 where
   never : stateOf n m ≡ none m → Lost n m b
   unsound : (x : Mode) (ts : List Frame) (c : Cursor) → stateOf n m ≡ wait x ts c m → sound (n .head .lent) x ts c m ≡ false → Lost n m b
-  unfit : (x : Mode) (ts : List Frame) (c : Cursor) (l : Memory) → stateOf n m ≡ wait x ts c m → sound (n .head .lent) x ts c m ≡ true
+  unfit : (x : Mode) (ts : List Frame) (c : Cursor) (l : Memory) → stateOf n m ≡ wait x ts c m → sound (n .head .lent) x ts c m ≡ true → c .at < messageLimit
       → act x b ts (taken c) m ≡ over (refused refusals.lost 0 0 l) → Lost n m b
 
 -- only 12 is 12
@@ -327,7 +336,7 @@ lost-wait n m b i told place k x ts c o e q = on-bool (sound (n .head .lent) x t
     (λ s. on-bool (leb messageLimit (c .at))
     (λ f. absurd (limit-lost n (zeroed m) i (c .at) told place k (at-limit s f) (rw (s, f) at q)))
     (λ f. let (l, r) = act-lost n (act x b ts (taken c) m) i told place k o (able-act (n .head .lent) b x ts c m s f) (placed-act x ts (taken c) m refl) (rw (s, f) at q)
-    in unfit x ts c l e s r))
+    in unfit x ts c l e s (leb-false messageLimit (c .at) f) r))
     (λ s. unsound x ts c e s)
   where
     at-limit : sound (n .head .lent) x ts c m ≡ true → leb messageLimit (c .at) ≡ true → c .at ≡ messageLimit

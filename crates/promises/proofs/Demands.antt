@@ -15,8 +15,8 @@ use Rattle.format.specs.declared.Answer.the-variants.{Waiting, Finished, Refuse
 use Rattle.format.specs.declared.Written.the-variants.{Bytes as Written, Unwritten}
 use Rattle.format.specs.declared.Frame.{Frame}
 use Rattle.format.specs.Reading as reader
-use Rattle.format.specs.Reading.{ok, bad, Ended, finished, refused, ended, unlessFault, reading, taken}
-use Rattle.format.specs.Step.{Mode, wait, over, none, act, end, run, begin}
+use Rattle.format.specs.Reading.{ok, bad, Ended, finished, refused, ended, unlessFault, reading}
+use Rattle.format.specs.Step.{Mode, wait, over, none, end, run, begin}
 use Rattle.format.specs.Numbers.{Numbers, stateOf, lentOf, frameWidth}
 use Rattle.format.specs.Answers.{Fed, fed, answerOf, beginCall, feedCall, endCall, read, readCall, output, writeCall, textCall}
 use Rattle.format.specs.Standard.{Tables, Tree, noTables, value, standard, encode}
@@ -32,6 +32,7 @@ use Rattle.format.specs.Claims.{extra, used}
 use Rattle.format.specs.Byte.{Decided-by}
 use Rattle.format.specs.Limits.{Accord, Kept-to, ReadingEnds}
 use Rattle.format.specs.Together.{Together, HoldsTogether}
+use Rattle.format.specs.Strays.{Strays}
 use Rattle.format.specs.Endings.{Outcome, Accepted, depth}
 use Rattle.format.proofs.Feeding as feeding
 use Rattle.format.proofs.Cuts as cuts
@@ -51,7 +52,8 @@ use Rattle.format.proofs.Trip as trip
 use Rattle.promises.proofs.Decides as decides
 use Rattle.promises.proofs.Answered as answered
 use Rattle.promises.proofs.Together as together
-use Rattle.promises.proofs.Lookups as lookups
+use Rattle.promises.proofs.Strays as strays
+use Rattle.promises.proofs.Holding as holding
 use Rattle.promises.proofs.Ranges as ranges
 use Rattle.promises.proofs.Ample as ample
 use Rattle.promises.proofs.Ties as ties
@@ -116,13 +118,19 @@ apart-lost = together.apart-lost
 -- one that holds together, with its frames and the tables, never gets it. Refuses: a step that says 12 where nothing that it reads is out of range
 pub together-never-12 : (state : Numbers) (m : Memory) (b : ℕ) (x : Mode) (ts : List Frame) (c : Cursor) → b < 2 ^ 8 → stateOf state m ≡ wait x ts c m
     → HoldsTogether (state .head .lent) x ts c m → (told place k : ℕ) → answerIn (feedCall state m (b ∷ [])) ≢ Refused no.lost told place k
-together-never-12 = lookups.together-never-lost
+together-never-12 = holding.together-never-lost
 
--- of one whose head does, a 12 is the step's own
-pub together-lost : (state : Numbers) (m : Memory) (b : ℕ) (x : Mode) (ts : List Frame) (c : Cursor) → b < 2 ^ 8 → stateOf state m ≡ wait x ts c m
+-- one whose head does gets it where the byte looks up what is out of range. Refuses: a step that goes on by an entry, a name or a frame that is out of range
+pub strays-lost : (state : Numbers) (m : Memory) (b : ℕ) (bs : List ℕ) (x : Mode) (ts : List Frame) (c : Cursor) → stateOf state m ≡ wait x ts c m
+    → Together (state .head .lent) x ts c m → c .at < messageLimit → Strays b x ts c m
+    → feedCall state m (b ∷ bs) ≡ fed (Refused no.lost 0 0 0) (lostNumbers state) (zeroed m)
+strays-lost = strays.strays-lost
+
+-- and only there. Refuses: a step that says 12 for an entry, a name or a frame that the byte doesn't look up
+pub lost-strays : (state : Numbers) (m : Memory) (b : ℕ) (x : Mode) (ts : List Frame) (c : Cursor) → b < 2 ^ 8 → stateOf state m ≡ wait x ts c m
     → Together (state .head .lent) x ts c m → (told place k : ℕ) → answerIn (feedCall state m (b ∷ [])) ≡ Refused no.lost told place k
-    → (l : Memory) × (act x b ts (taken c) m ≡ over (refused no.lost 0 0 l))
-together-lost = together.together-unfit
+    → (c .at < messageLimit) × Strays b x ts c m
+lost-strays = strays.lost-strays
 
 -- whatever the state, a new refusal's place is the place of the byte that it was decided by
 pub feed-places : (state : Numbers) (m : Memory) (b : ℕ) (bs : List ℕ) → Going (stateOf state m)

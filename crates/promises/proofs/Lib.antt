@@ -11,9 +11,13 @@ pub mod Stands
 pub mod Counted
 pub mod Decides
 pub mod Answered
-pub mod Together
-pub mod Lookups
 pub mod Ranges
+-- Where a state holds together, a byte is refused by 12 exactly where what it looks up strays.
+pub mod Together
+pub mod Verdicts
+pub mod Twins
+pub mod Strays
+pub mod Holding
 -- The round trip through the calls.
 pub mod Trips
 -- What each call is of.

@@ -93,13 +93,13 @@ pub apart-lost : (n : Numbers) (m : Memory) (b : ℕ) (bs : List ℕ) (x : Mode)
 apart-lost n m b bs x ts c e h = on-bool (sound (n .head .lent) x ts c m)
     (λ f. absurd (h (sound-together (n .head .lent) x ts c m f))) (λ f. unsound-lost n m b bs x ts c e f)
 
--- where it does, a byte is refused by 12 only where what the loans and the frames hold doesn't fit what was read
+-- where it does, a byte is refused by 12 only by its own step
 pub together-unfit : (n : Numbers) (m : Memory) (b : ℕ) (x : Mode) (ts : List Frame) (c : Cursor) → b < 2 ^ 8 → stateOf n m ≡ wait x ts c m
     → Together (n .head .lent) x ts c m → (told place k : ℕ) → answerIn (feedCall n m (b ∷ [])) ≡ Refused refusals.lost told place k
-    → (l : Memory) × (act x b ts (taken c) m ≡ over (refused refusals.lost 0 0 l))
+    → (l : Memory) × (c .at < messageLimit) × (act x b ts (taken c) m ≡ over (refused refusals.lost 0 0 l))
 together-unfit n m b x ts c o e h told place k q = of (lost-only n m b told place k o (rw e waiting) q)
   where
-    of : Lost n m b → (l : Memory) × (act x b ts (taken c) m ≡ over (refused refusals.lost 0 0 l))
+    of : Lost n m b → (l : Memory) × (c .at < messageLimit) × (act x b ts (taken c) m ≡ over (refused refusals.lost 0 0 l))
     of (never f) = clash cc
     of (unsound y us d f g) =
         let i : x ≡ y = cc in
@@ -107,8 +107,8 @@ together-unfit n m b x ts c o e h told place k q = of (lost-only n m b told plac
         let o : c ≡ d = cc in
         let t : sound (n .head .lent) y us d m ≡ true = rw (i, j, o) at (together-sound (n .head .lent) x ts c m h) in
         clash cc
-    of (unfit y us d l f g a) =
+    of (unfit y us d l f g v a) =
         let i : x ≡ y = cc in
         let j : ts ≡ us = cc in
         let o : c ≡ d = cc in
-        (l, rw (i, j, o) a)
+        (l, rw o v, rw (i, j, o) a)
