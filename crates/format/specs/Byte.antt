@@ -1,6 +1,7 @@
 -- What a byte decides: with what it may be refused, and the answer that it made.
 use mathlib.Core.Path.{_≡_}
 use mathlib.Core.Bool.{_&&_}
+use mathlib.Core.Logic.{_≢_}
 use Prim.Native.Nat.{ℕ, _<_, suc}
 use lib.Dec.{T, leb}
 use Rattle.rows.specs.Memory.{loanRows, loanNames, messageLimit}
@@ -29,6 +30,6 @@ pub data RefusedBy (b p : ℕ) : ℕ → ℕ → ℕ → Type 0 where
 -- an answer that byte b decided, the last of p bytes that are taken
 pub data Decided-by (b p : ℕ) : Answer → Type 0 where
   ends : {rows bytes k : ℕ} → Decided-by b p (Finished rows bytes k)
-  refuses : {n told place k : ℕ} → RefusedBy b p n told place → Decided-by b p (Refused n told place k)
+  refuses : {n told place k : ℕ} → n ≢ no.lost → RefusedBy b p n told place → Decided-by b p (Refused n told place k)
   -- it isn't taken
   past : {place k : ℕ} → place ≡ messageLimit → suc place ≡ p → Decided-by b p (Refused no.tooLong 0 place k)

@@ -88,6 +88,10 @@ refusedNumbers n told place l frames = record { head = head statusRefused n told
 abbrev pub lostNumbers : Numbers → Numbers
 lostNumbers n = refusedNumbers no.lost 0 0 (n .head .lent) (n .frames)
 
+-- a feed refuses with these values and takes so many bytes; the state says no more than that, and the loans are zero
+abbrev pub RefusedWith : Numbers → Memory → List ℕ → ℕ → ℕ → ℕ → ℕ → Type 0
+RefusedWith state m piece n told place k = feedCall state m piece ≡ fed (Refused n told place k) (refusedNumbers n told place (state .head .lent) (state .frames)) (zeroed m)
+
 -- where a state stands that hasn't ended
 abbrev pub placeOf : State → ℕ
 placeOf (wait x ts c m) = c .at

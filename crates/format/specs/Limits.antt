@@ -1,6 +1,7 @@
 -- Why a reading is refused by a limit or for want of room, how it ends, and how it and the standard agree.
 use mathlib.Core.Path.{_≡_}
 use mathlib.Core.List.{List, _∷_, _++_}
+use mathlib.Core.Logic.{_≢_}
 use Prim.Native.Nat.{ℕ, zero, suc, _+_, _*_, _/_, _≤_, _<_, _^_}
 use lib.ListN.{length, take}
 use Rattle.rows.specs.declared.Cursor.{Cursor}
@@ -125,8 +126,8 @@ pub data ReadingEnds (bs : List ℕ) : Ended → Type 0 where
   faults : {loan : ℕ} {m : Memory} → loanRows ≤ loan → loan ≤ loanNames → ReadingEnds bs (refused no.badLoan loan 0 m)
   -- 2: the bytes end too soon, and its place is their end
   cut : {place : ℕ} {m : Memory} → place ≡ length bs → place ≤ messageLimit → ReadingEnds bs (refused no.unexpectedEnd 0 place m)
-  -- 3 to 10, or 12, which no reading says: a byte b, the last of p that were taken
-  byte : {number told place : ℕ} {m : Memory} (b p : ℕ) → b < 2 ^ 8 → p ≤ length bs → place ≤ messageLimit → RefusedBy b p number told place
+  -- 3 to 10: a byte b, the last of p that were taken
+  byte : {number told place : ℕ} {m : Memory} (b p : ℕ) → b < 2 ^ 8 → p ≤ length bs → place ≤ messageLimit → number ≢ no.lost → RefusedBy b p number told place
       → ReadingEnds bs (refused number told place m)
   -- 11: as many are taken as may be, and there are more
   past : {place : ℕ} {m : Memory} → place ≡ messageLimit → messageLimit < length bs → ReadingEnds bs (refused no.tooLong 0 place m)

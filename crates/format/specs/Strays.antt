@@ -2,8 +2,8 @@
 -- value that the byte finishes. Of a state whose head holds together the step is a 12 exactly where one of these strays; what isn't looked up isn't tested.
 use mathlib.Core.Path.{_≡_}
 use mathlib.Core.List.{List, [], _∷_}
-use Prim.Native.Nat.{ℕ, zero, suc, _+_, _/_, _≤_, _<_}
-use lib.ListN.{length, getD}
+use Prim.Native.Nat.{ℕ, suc, _+_, _/_, _<_}
+use lib.ListN.{length}
 use Rattle.rows.specs.declared.Cursor.{Cursor}
 use Rattle.rows.specs.declared.Span.{Span}
 use Rattle.rows.specs.declared.Trait.{Trait}
@@ -19,7 +19,7 @@ use Rattle.format.specs.Codes.{taskMembers}
 use Rattle.format.specs.Decide.{traitAt, namesTo}
 use Rattle.format.specs.Reading.{finished, taken}
 use Rattle.format.specs.Step.{forName, tableText, Word, integerWord, objectWord, sizeWord, textWord, Use, Mode, atWord, atText, over, pop, act}
-use Rattle.format.specs.Together.{RowIn, SpanIn, TraitIn, ObjectIn, NameIn, FrameIn}
+use Rattle.format.specs.Together.{SpanIn, TraitIn, ObjectIn, NameIn, FrameIn}
 
 -- ---- frames
 

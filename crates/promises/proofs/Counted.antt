@@ -1,6 +1,7 @@
 -- The bytes that are taken, on any state and loans: what still waits took all of them, and the byte that decided is the last one taken, but for 11 and 12.
 use mathlib.Core.Path.{_≡_, refl, sym, ap, _∙_}
 use mathlib.Core.Bool.{cond, _||_}
+use mathlib.Core.Logic.{_≢_}
 use mathlib.Core.List.{List, [], _∷_, _++_}
 use Prim.Native.Nat.{ℕ, suc, _+_, _^_, _<_}
 use native.Mathlib.Nat.{add-zero, zero-add, add-assoc}
@@ -133,22 +134,23 @@ module _ (h : Held) (a : List ℕ) (b : ℕ) (rest : List ℕ) (octet : b < 2 ^ 
 up : {at p place : ℕ} → at ≡ p + 1 → place ≡ at → place ≡ suc p
 up e f = omega arith
 
--- what the state behind it says
-decided-state : {at : ℕ} (b p k : ℕ) (t : State) → b < 2 ^ 8 → Stands ⊥ (λ (x : ℕ). x ≡ b) at t → at ≡ p + cost t → (Waits t → ⊥) → Decided-by b (suc p) (answerOf t k)
-decided-state b p k t o (waits e) q w = absurd (w tt)
-decided-state b p k t o (finishes e) q w = ends
-decided-state b p k t o (faulty f i j e) q w = absurd f
-decided-state b p k t o (declines c l y (unknown h e) j z) q w = rw (← y) (refuses (unknown h (up q e)))
-decided-state b p k t o (declines c l y (absent e) j z) q w = refuses (absent (up q e))
-decided-state b p k t o (declines c l y (unfinished e) j z) q w = refuses (unfinished (up q e))
-decided-state b p k t o (declines c l y (external e) j z) q w = refuses (external (up q e))
-decided-state b p k t o (declines c l y (undated e) j z) q w = refuses (undated (up q e))
-decided-state b p k t o (declines c l y (invalid e) j z) q w = refuses (invalid (up q e))
-decided-state b p k t o (declines c l y (deep e) j z) q w = refuses (deep (up q e))
-decided-state b p k t o (declines c l y (full h e) j z) q w = refuses (full h (up q e))
-decided-state b p k t o (declines c l y astrays j z) q w = refuses astrays
-decided-state b p k t o (passes l e f z) q w = past e (ap suc (f ∙ q ∙ add-zero p))
-decided-state b p k t o (forgets c l y f z) q w = absurd (f (rw y o))
+-- what the state behind it says, if that isn't 12
+decided-state : {at : ℕ} (b p k : ℕ) (t : State) → b < 2 ^ 8 → Stands ⊥ (λ (x : ℕ). x ≡ b) at t → at ≡ p + cost t → (Waits t → ⊥)
+    → ((told place j : ℕ) → answerOf t k ≢ Refused refusals.lost told place j) → Decided-by b (suc p) (answerOf t k)
+decided-state b p k t o (waits e) q w g = absurd (w tt)
+decided-state b p k t o (finishes e) q w g = ends
+decided-state b p k t o (faulty f i j e) q w g = absurd f
+decided-state b p k t o (declines c l y (unknown h e) j z) q w g = rw (← y) (refuses {n = refusals.badMarker} (λ i. clash cc) (unknown h (up q e)))
+decided-state b p k t o (declines c l y (absent e) j z) q w g = refuses {n = refusals.noEntry} (λ i. clash cc) (absent (up q e))
+decided-state b p k t o (declines c l y (unfinished e) j z) q w g = refuses {n = refusals.openObject} (λ i. clash cc) (unfinished (up q e))
+decided-state b p k t o (declines c l y (external e) j z) q w g = refuses {n = refusals.externalizable} (λ i. clash cc) (external (up q e))
+decided-state b p k t o (declines c l y (undated e) j z) q w g = refuses {n = refusals.badDate} (λ i. clash cc) (undated (up q e))
+decided-state b p k t o (declines c l y (invalid e) j z) q w g = refuses {n = refusals.badText} (λ i. clash cc) (invalid (up q e))
+decided-state b p k t o (declines c l y (deep e) j z) q w g = refuses {n = refusals.tooDeep} (λ i. clash cc) (deep (up q e))
+decided-state b p k t o (declines c l y (full h e) j z) q w g = refuses {n = refusals.noRoom} (λ i. clash cc) (full h (up q e))
+decided-state b p k t o (declines c l y astrays j z) q w g = absurd (g 0 0 k refl)
+decided-state b p k t o (passes l e f z) q w g = past e (ap suc (f ∙ q ∙ add-zero p))
+decided-state b p k t o (forgets c l y f z) q w g = absurd (f (rw y o))
 
 -- what waits stands where it stood
 stand-again : {Begun : Type 0} {Byte Byte′ : ℕ → Type 0} {at : ℕ} (s : State) → Stands Begun Byte at s → Waits s → Stands ⊥ Byte′ at s
@@ -162,13 +164,14 @@ stand-again s (forgets b k y f z) w = absurd w
 module _ (h : Held) (a : List ℕ) (b : ℕ) (rest : List ℕ) (octet : b < 2 ^ 8) (before : Waits (stateIn (runHeld h a)))
     (after : Waits (stateIn (byteStep b (runHeld h a))) → ⊥) where
   pub decided-says : {Begun : Type 0} → Stands Begun Any 0 (stateIn h) → (k : ℕ)
+      → ((told place j : ℕ) → answerOf (stateIn (runHeld h (a ++ (b ∷ rest)))) k ≢ Refused refusals.lost told place j)
       → Decided-by b (suc (length a)) (answerOf (stateIn (runHeld h (a ++ (b ∷ rest)))) k)
-  decided-says w k =
+  decided-says w k g =
       let t = waits-all h a before in
       let s = stand-again {Byte′ = λ (x : ℕ). x ≡ b} (stateIn (runHeld h a)) (stands-run h a (every-any a) w) before in
       let c = cost-from (stateIn (runHeld h a)) (stateIn (byteStep b (runHeld h a))) before in
-      rw (decided-run h a b rest octet before after)
-      (decided-state b (length a) k (stateIn (byteStep b (runHeld h a))) octet (stands-byte b (runHeld h a) refl s) (rw (c, t, zero-add)) after)
+      let d = decided-run h a b rest octet before after in
+      rw d (decided-state b (length a) k (stateIn (byteStep b (runHeld h a))) octet (stands-byte b (runHeld h a) refl s) (rw (c, t, zero-add)) after (rw d at g))
 
 -- ---- through the calls
 

@@ -289,8 +289,9 @@ module _ (m : Memory) (a : List ℕ) (b : ℕ) (rest : List ℕ) (parts : List (
   decides-limit told place k e = decides ∙ ap (λ (x : Answer). length a + lastByte x) e ∙ add-zero (length a)
 
   -- the answer is that byte's: a refusal has its place, and 3 tells it
-  pub decides-by : Decided-by b (suc (length a)) (answerIn (fedPieces (beginCall m) parts))
-  decides-by = rw (answer-after .1) (decided-says (first m) a b rest octet before-waits after-ended (stands-begin m) (answer-after .0))
+  pub decides-by : Bytes (joined parts) → Decided-by b (suc (length a)) (answerIn (fedPieces (beginCall m) parts))
+  decides-by o =
+      rw (answer-after .1) (decided-says (first m) a b rest octet before-waits after-ended (stands-begin m) (answer-after .0) (rw (answer-after .1) at (feed-never-lost m parts o)))
 
 -- ---- the loans while it waits
 

@@ -4,10 +4,17 @@ use mathlib.Core.Path.{_≡_}
 use mathlib.Core.Bool.{true, false}
 use mathlib.Core.Logic.{_≢_}
 use mathlib.Core.List.{List, [], _∷_, _++_}
-use Prim.Native.Nat.{ℕ, suc, _+_, _*_, _^_, _≤_, _<_}
+use Prim.Native.Nat.{ℕ, suc, _+_, _*_, _/_, _^_, _≤_, _<_}
 use lib.Dec.{T}
 use lib.ListN.{length, take, drop, replicate}
 use Rattle.rows.specs.declared.Cursor.{Cursor}
+use Rattle.rows.specs.declared.Key.{Key}
+use Rattle.rows.specs.declared.Span.{Span}
+use Rattle.wire.specs.declared.Part.the-variants.{Whole}
+use Rattle.wire.specs.U29.{partOf}
+use Rattle.wire.specs.Word.{sizeOf}
+use Rattle.utf8.specs.States.{stepOf}
+use Rattle.rows.specs.Memory.{rowWidth, spanWidth, loanRows, loanStore, loanStrings, loanObjects}
 use Rattle.rows.specs.Memory.{Memory, fresh, zeroed, faultOf, rowsFault, messageLimit, openLimit, noKey, colKind, colBodyBegin, colBodySize}
 use Rattle.format.specs.Refusals as no
 use Rattle.format.specs.declared.Answer.{Answer}
@@ -16,7 +23,7 @@ use Rattle.format.specs.declared.Written.the-variants.{Bytes as Written, Unwrit
 use Rattle.format.specs.declared.Frame.{Frame}
 use Rattle.format.specs.Reading as reader
 use Rattle.format.specs.Reading.{ok, bad, Ended, finished, refused, ended, unlessFault, reading}
-use Rattle.format.specs.Step.{Mode, wait, over, none, end, run, begin}
+use Rattle.format.specs.Step.{Mode, atMarker, atWord, atText, Word, Text, tableText, Use, wait, over, none, end, run, begin}
 use Rattle.format.specs.Numbers.{Numbers, stateOf, lentOf, frameWidth}
 use Rattle.format.specs.Answers.{Fed, fed, answerOf, beginCall, feedCall, endCall, read, readCall, output, writeCall, textCall}
 use Rattle.format.specs.Standard.{Tables, Tree, noTables, value, standard, encode}
@@ -28,9 +35,9 @@ use Rattle.wire.specs.Octets.{Bytes}
 use Rattle.format.specs.Claims.{joined, answerIn, takenIn, untaken, fedBy, fedPieces, tally, untook, endBy, endRead, unread, firstNumbers, refusedNumbers}
 use Rattle.format.specs.Claims.{lostNumbers, placeOf, lastByte, Named, BeginSays, FeedSays, EndSays, ReadSays, WriteRefuses, WriteSays, readAnswer, writeAnswer}
 use Rattle.format.specs.Claims.{Going, FeedLeaves, EndLeaves, Feeds, usedRows, Shallow, Returns, Held-just, Passes, Wide, Again, NoShorter, Roomy, widened, beyond}
-use Rattle.format.specs.Claims.{extra, used}
+use Rattle.format.specs.Claims.{extra, used, RefusedWith}
 use Rattle.format.specs.Byte.{Decided-by}
-use Rattle.format.specs.Limits.{Accord, Kept-to, ReadingEnds}
+use Rattle.format.specs.Limits.{Accord, Kept-to, ReadingEnds, asked, Enters}
 use Rattle.format.specs.Together.{Together, HoldsTogether}
 use Rattle.format.specs.Strays.{Strays}
 use Rattle.format.specs.Endings.{Outcome, Accepted, depth}
@@ -54,6 +61,7 @@ use Rattle.promises.proofs.Answered as answered
 use Rattle.promises.proofs.Together as together
 use Rattle.promises.proofs.Strays as strays
 use Rattle.promises.proofs.Holding as holding
+use Rattle.promises.proofs.Order as order
 use Rattle.promises.proofs.Ranges as ranges
 use Rattle.promises.proofs.Ample as ample
 use Rattle.promises.proofs.Ties as ties
@@ -136,6 +144,53 @@ lost-strays = strays.lost-strays
 pub feed-places : (state : Numbers) (m : Memory) (b : ℕ) (bs : List ℕ) → Going (stateOf state m)
     → Feeds (placeOf (stateOf state m)) (b ∷ bs) (answerIn (feedCall state m (b ∷ bs)))
 feed-places = answered.feed-going
+
+-- of two refusals that are due at one byte, on any state whose head holds together: 11 comes before the byte is looked at
+pub limit-first : (state : Numbers) (m : Memory) (b : ℕ) (bs : List ℕ) (x : Mode) (ts : List Frame) (c : Cursor) → stateOf state m ≡ wait x ts c m
+    → Together (state .head .lent) x ts c m → c .at ≡ messageLimit → RefusedWith state m (b ∷ bs) no.tooLong 0 messageLimit 0
+limit-first = order.limit-first
+
+-- at a marker 3, however deep it is and however full the rows are
+pub marker-unknown : (state : Numbers) (m : Memory) (b : ℕ) (bs : List ℕ) (k : Key) (ts : List Frame) (c : Cursor) → stateOf state m ≡ wait (atMarker k) ts c m
+    → Together (state .head .lent) (atMarker k) ts c m → b < 2 ^ 8 → c .at < messageLimit → 0x11 < b → RefusedWith state m (b ∷ bs) no.badMarker b (suc (c .at)) 1
+marker-unknown = order.marker-unknown
+
+-- then 9 wherever 64 are open, however full the rows are
+pub marker-deep : (state : Numbers) (m : Memory) (b : ℕ) (bs : List ℕ) (k : Key) (ts : List Frame) (c : Cursor) → stateOf state m ≡ wait (atMarker k) ts c m
+    → Together (state .head .lent) (atMarker k) ts c m → b < 2 ^ 8 → c .at < messageLimit → b ≤ 0x11 → length ts ≡ openLimit
+    → RefusedWith state m (b ∷ bs) no.tooDeep 0 (suc (c .at)) 1
+marker-deep = order.marker-deep
+
+-- then 10 for rows
+pub marker-full : (state : Numbers) (m : Memory) (b : ℕ) (bs : List ℕ) (k : Key) (ts : List Frame) (c : Cursor) → stateOf state m ≡ wait (atMarker k) ts c m
+    → Together (state .head .lent) (atMarker k) ts c m → b < 2 ^ 8 → c .at < messageLimit → b ≤ 0x11 → length ts < openLimit
+    → length (m .rows) / rowWidth ≤ c .rows → RefusedWith state m (b ∷ bs) no.noRoom loanRows (suc (c .at)) 1
+marker-full = order.marker-full
+
+-- at the last byte of a literal object's word the objects' room, before all that follows
+pub objects-first : (state : Numbers) (m : Memory) (b : ℕ) (bs : List ℕ) (x : Word) (left part v : ℕ) (ts : List Frame) (c : Cursor)
+    → stateOf state m ≡ wait (atWord x left part) ts c m → Together (state .head .lent) (atWord x left part) ts c m → b < 2 ^ 8 → c .at < messageLimit
+    → partOf left part b ≡ Whole v → Enters x v → length (m .objects) ≤ c .objects → RefusedWith state m (b ∷ bs) no.noRoom loanObjects (suc (c .at)) 1
+objects-first = order.objects-first
+
+-- then room in the store, as soon as the length is known
+pub store-next : (state : Numbers) (m : Memory) (b : ℕ) (bs : List ℕ) (x : Word) (left part v : ℕ) (ts : List Frame) (c : Cursor)
+    → stateOf state m ≡ wait (atWord x left part) ts c m → Together (state .head .lent) (atWord x left part) ts c m → b < 2 ^ 8 → c .at < messageLimit
+    → partOf left part b ≡ Whole v → (Enters x v → c .objects < length (m .objects)) → length (m .store) < c .store + asked x (sizeOf v)
+    → RefusedWith state m (b ∷ bs) no.noRoom loanStore (suc (c .at)) 1
+store-next = order.store-next
+
+-- at a text's last byte 8, however full the strings are
+pub text-first : (state : Numbers) (m : Memory) (b : ℕ) (bs : List ℕ) (x : Text) (s : Span) (test : ℕ) (ts : List Frame) (c : Cursor)
+    → stateOf state m ≡ wait (atText x s 0 test) ts c m → Together (state .head .lent) (atText x s 0 test) ts c m → b < 2 ^ 8 → c .at < messageLimit
+    → stepOf test b ≢ 0 → RefusedWith state m (b ∷ bs) no.badText 0 (suc (c .at)) 1
+text-first = order.text-first
+
+-- then room for the string's entry
+pub strings-next : (state : Numbers) (m : Memory) (b : ℕ) (bs : List ℕ) (u : Use) (s : Span) (test : ℕ) (ts : List Frame) (c : Cursor)
+    → stateOf state m ≡ wait (atText (tableText u) s 0 test) ts c m → Together (state .head .lent) (atText (tableText u) s 0 test) ts c m → b < 2 ^ 8
+    → c .at < messageLimit → stepOf test b ≡ 0 → length (m .strings) / spanWidth ≤ c .strings → RefusedWith state m (b ∷ bs) no.noRoom loanStrings (suc (c .at)) 1
+strings-next = order.strings-next
 
 -- "A refused reading leaves the loans as document 01 says": after 1 as found, after any other refusal all of them zero
 pub refused-by-1 : (m : Memory) (bytes : List ℕ) (loan : ℕ) → faultOf m ≡ suc loan → reading m bytes ≡ refused no.badLoan (suc loan) 0 m
@@ -306,6 +361,10 @@ pub finished-passes : (m : Memory) (bytes : List ℕ) (c : Cursor) (m′ : Memor
     → Passes (usedRows c m′) (tested (usedRows c m′) (m′ .store))
 finished-passes = tables.finished-passes
 
+-- and 1 doesn't refuse it
+pub finished-lent : (m : Memory) (bytes : List ℕ) (c : Cursor) (m′ : Memory) → reading m bytes ≡ finished c m′ → rowsFault (usedRows c m′) (m′ .store) ≡ 0
+finished-lent = ties.finished-lent
+
 -- canHold is exact: where a written tree's reading finishes, the loans can hold it
 pub held-exactly : (m : Memory) (t : Tree) → Writable t → (rest : List ℕ) (c : Cursor) (k : Memory) → reading m (encode t ++ rest) ≡ finished c k
     → canHold m t ≡ true
@@ -393,7 +452,7 @@ deciding-byte-past = decides.decides-limit
 -- the answer is that byte's: a refusal has its place, and 3 tells it
 pub deciding-answer : (m : Memory) (a : List ℕ) (b : ℕ) (rest : List ℕ) (parts : List (List ℕ)) → joined parts ≡ a ++ (b ∷ rest) → (i : ℕ) → b < 2 ^ 8
     → answerIn (fedBy (beginCall m) a) ≡ Waiting i → ((j : ℕ) → answerIn (fedBy (beginCall m) (a ++ (b ∷ []))) ≢ Waiting j)
-    → Decided-by b (suc (length a)) (answerIn (fedPieces (beginCall m) parts))
+    → Bytes (joined parts) → Decided-by b (suc (length a)) (answerIn (fedPieces (beginCall m) parts))
 deciding-answer = decides.decides-by
 
 -- while it waits the loans hold what the bytes give: the reading of the same bytes stops with 2 at the same place and in the same loans

@@ -18,9 +18,12 @@ pub mod Verdicts
 pub mod Twins
 pub mod Strays
 pub mod Holding
+-- Which refusal comes first.
+pub mod Order
 -- The round trip through the calls.
 pub mod Trips
 -- What each call is of.
 pub mod Ties
--- The demands.
+-- The demands, and wrong programs that each breaks.
 pub mod Demands
+pub mod Refuted

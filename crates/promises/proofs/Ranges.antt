@@ -272,28 +272,30 @@ below n h f = omega (arith, f)
 
 module _ (m : Memory) (bs : List ℕ) (octets : Bytes bs) where
   -- how a state behind the bytes ends
-  reads-of : (s : State) → s ≡ stateIn (runHeld (first m) bs) → Stands Unit Octet (takenBy (first m) bs) s → ReadingEnds bs (end s)
+  reads-of : (s : State) → s ≡ stateIn (runHeld (first m) bs) → Stands Unit Octet (takenBy (first m) bs) s
+      → ((n told place : ℕ) (l : Memory) → end s ≡ refused n told place l → n ≢ refusals.lost) → ReadingEnds bs (end s)
   unfolding end
-  reads-of s q (waits {x = x} {ts = ts} {c = c} {m = k} e) =
+  reads-of s q (waits {x = x} {ts = ts} {c = c} {m = k} e) g =
       let v : Waits (stateIn (runHeld (first m) bs)) = rw (← q) tt in
       let a = waits-all (first m) bs v in
       let r : run (begin m) bs ≡ wait x ts c k = sym ((shows-run (begin m) (first m) bs octets (shows-begin m)) .shown) ∙ sym q in
-      let g = (good-waits (rw r at (good-along m bs octets))) .0 in
-      let i = g .place in
-      let j = g .within in
+      let h = (good-waits (rw r at (good-along m bs octets))) .0 in
+      let i = h .place in
+      let j = h .within in
       cut (e ∙ a) (omega arith)
-  reads-of s q (finishes {c = c} e) = let l = most-in (first m) bs in whole {c = c} (omega arith)
-  reads-of s q (faultyLoan u i j e) = faults i j
-  reads-of s q (declines b k y r h z) = byte b (takenBy (first m) bs) y (most-in (first m) bs) h r
-  reads-of s q (passes {place = place} {m = l} k e f z) = past e (past-length (first m) bs (sym f ∙ e) (ap cost (sym q)))
-  reads-of s q (forgets b k y f z) = absurd (f y)
+  reads-of s q (finishes {c = c} e) g = let l = most-in (first m) bs in whole {c = c} (omega arith)
+  reads-of s q (faultyLoan u i j e) g = faults i j
+  reads-of s q (declines b k y r h z) g = byte b (takenBy (first m) bs) y (most-in (first m) bs) h (g _ _ _ _ refl) r
+  reads-of s q (passes {place = place} {m = l} k e f z) g = past e (past-length (first m) bs (sym f ∙ e) (ap cost (sym q)))
+  reads-of s q (forgets b k y f z) g = absurd (f y)
 
   -- on any loans and bytes
   pub reading-named : ReadingEnds bs (reading m bs)
   reading-named =
       let q : stateIn (runHeld (first m) bs) ≡ run (begin m) bs = (shows-run (begin m) (first m) bs octets (shows-begin m)) .shown in
       rw (← feeding m bs, ← q)
-      (reads-of (stateIn (runHeld (first m) bs)) refl (rw zero-add at (stands-run (first m) bs (every-byte bs octets) (stands-begin m))))
+      (reads-of (stateIn (runHeld (first m) bs)) refl (rw zero-add at (stands-run (first m) bs (every-byte bs octets) (stands-begin m)))
+      (λ n told place l e. never-lost m bs octets n told place l (sym (feeding m bs) ∙ ap end (sym q) ∙ e)))
 
   -- what it says, and at which place
   good-says : {lent : Lent} {at : ℕ} (s : State) → Good lent at s → Said (over (end s))
@@ -311,7 +313,7 @@ module _ (m : Memory) (bs : List ℕ) (octets : Bytes bs) where
   read-place n told place l e (whole h) q = clash cc
   read-place n told place l e (faults h i) q = let v : 0 ≡ place = cc in (omega arith, omega arith)
   read-place n told place l e (cut {place = w} h i) q = let v : w ≡ place = cc in (omega arith, omega arith)
-  read-place n told place l e (byte {place = w} b p y h i r) q = let v : w ≡ place = cc in let j = refusal-place r in (omega arith, omega arith)
+  read-place n told place l e (byte {place = w} b p y h i u r) q = let v : w ≡ place = cc in let j = refusal-place r in (omega arith, omega arith)
   read-place n told place l e (past {place = w} h i) q = let v : w ≡ place = cc in (omega arith, omega arith)
 
   -- what its end answers

@@ -2,12 +2,13 @@
 use mathlib.Core.Path.{_≡_, ap, _∙_}
 use mathlib.Core.Bool.{true, false}
 use mathlib.Core.List.{List}
-use Prim.Native.Nat.{ℕ, _+_, _≤_, _<_}
+use Prim.Native.Nat.{ℕ, _+_, _*_, _/_, _%_, _≤_, _<_}
 use native.Mathlib.Omega.{arith}
-use borrow.Author.Tests.{le-leb, lt-leb, ne-eqb}
+use borrow.Author.Tests.{le-leb, lt-leb, le-ltb, ne-eqb}
 use lib.ListN.{length}
+use lib.Seq.{length-take-le}
 use Rattle.rows.specs.declared.Cursor.{Cursor}
-use Rattle.rows.specs.Memory.{Memory, rowsFault, messageLimit, colKind, colBodyBegin, colBodySize}
+use Rattle.rows.specs.Memory.{Memory, loanFault, rowsFault, rowsMost, storeMost, rowWidth, messageLimit, colKind, colBodyBegin, colBodySize}
 use Rattle.format.specs.declared.Answer.the-variants.{Finished, Refused}
 use Rattle.format.specs.declared.Lent.{Lent}
 use Rattle.format.specs.declared.Written.the-variants.{Bytes as Wrote, Unwritten}
@@ -18,7 +19,11 @@ use Rattle.format.specs.Unfold.{col, home, part}
 use Rattle.format.specs.RowTest.{hasText}
 use Rattle.format.specs.Text.{textSpan, textOr}
 use Rattle.format.specs.Writing.{written, unwritten, writing}
+use Rattle.format.specs.Numbers.{lentOf}
+use Rattle.format.specs.Claims.{usedRows}
+use Rattle.format.specs.Together.{Counts}
 use Rattle.format.proofs.Tests.{clash}
+use Rattle.format.proofs.Kept.{Holds, holds-lent}
 use Rattle.format.proofs.Along.{Able, awaits, completes, rejects}
 use Rattle.format.proofs.Shows.{able-along}
 use Rattle.format.proofs.Feeding.{feeding}
@@ -47,6 +52,31 @@ within-able {c = c} s (rejects t h z) e = clash cc
 -- no more bytes are taken than a message has
 pub finished-within : (m : Memory) (bs : List ℕ) (c : Cursor) (k : Memory) → reading m bs ≡ finished c k → c .at ≤ messageLimit
 finished-within m bs c k e = within-able (run (begin m) bs) (able-along m bs) (feeding m bs ∙ e)
+
+-- no more is used than is lent
+counts-in : {lent : Lent} {at : ℕ} {c : Cursor} {m : Memory} → Holds lent at c m → Counts (lentOf m) c
+counts-in h = rw (h .lends) (h .counts)
+
+-- what is used of the rows is whole rows, no more than can be lent, and so is the store
+lent-able : {B : Type 0} {lent : Lent} {at : ℕ} {c : Cursor} {k : Memory} (s : State) → Able B lent at s → end s ≡ finished c k → rowsFault (usedRows c k) (k .store) ≡ 0
+unfolding end loanFault lentOf
+lent-able s (awaits h f u v) e = clash cc
+lent-able {c = c} {k = k} s (completes {c = d} {m = l} h) e =
+    let p : d ≡ c = cc in
+    let q : l ≡ k = cc in
+    let loans = rw q at (holds-lent h) in
+    let counts : Counts (lentOf k) c = rw (p, q) at (counts-in h) in
+    let n : length (usedRows c k) ≡ c .rows * rowWidth = length-take-le (c .rows * rowWidth) (k .rows) (omega arith) in
+    let most : c .rows * rowWidth ≤ rowsMost * rowWidth = omega arith in
+    let store : length (k .store) ≤ storeMost * 1 = omega arith in
+    let whole : (c .rows * rowWidth) % rowWidth ≡ 0 = omega arith in
+    let bytes : length (k .store) % 1 ≡ 0 = omega arith in
+    rw (n, le-ltb _ _ most, whole, le-ltb _ _ store, bytes)
+lent-able s (rejects t h z) e = clash cc
+
+-- so that 1 doesn't refuse what a finished reading leaves to be written
+pub finished-lent : (m : Memory) (bs : List ℕ) (c : Cursor) (k : Memory) → reading m bs ≡ finished c k → rowsFault (usedRows c k) (k .store) ≡ 0
+finished-lent m bs c k e = lent-able (run (begin m) bs) (able-along m bs) (feeding m bs ∙ e)
 
 -- ---- write
 
