@@ -101,9 +101,12 @@ in-loans : {lent : Lent} {x : Mode} {ts : List Frame} {c : Cursor} {m : Memory} 
     × (ltb (length (m .objects)) (c .objects) ≡ false)
 unfolding lentOf
 in-loans {c = c} {m = m} h =
-    let r = counts-lent h in
-    (le-ltb (length (m .rows) / rowWidth) (c .rows) (omega arith), le-ltb (length (m .store)) (c .store) (omega arith),
-    le-ltb (length (m .strings) / spanWidth) (c .strings) (omega arith), le-ltb (length (m .objects)) (c .objects) (omega arith))
+    let r = counts-lent h in (
+      le-ltb (length (m .rows) / rowWidth) (c .rows) (omega arith),
+      le-ltb (length (m .store)) (c .store) (omega arith),
+      le-ltb (length (m .strings) / spanWidth) (c .strings) (omega arith),
+      le-ltb (length (m .objects)) (c .objects) (omega arith),
+    )
 
 -- ---- at a marker
 

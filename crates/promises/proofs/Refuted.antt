@@ -32,6 +32,7 @@ use Rattle.format.specs.Holds.{canHold}
 use Rattle.format.specs.Endings as e
 use Rattle.format.specs.Endings.{depth}
 use Rattle.format.specs.Together.{Together}
+use Rattle.format.specs.Strays.{Strays}
 use Rattle.format.specs.Byte.{RefusedBy}
 use Rattle.format.specs.Byte as byte
 use Rattle.format.specs.Claims.{answerIn, readAnswer, placeOf, lostNumbers, Going, FeedSays, ReadSays, Refuses, Feeds, Returns, NoShorter, widened, beyond, extra}
@@ -84,10 +85,11 @@ held : Held (lent 1) twins 8 × Held (lent 2) second 15 × Held (lent 1) letter 
 unfolding u.u29 r.loanFault r.messageLimit r.openLimit t.byte t.bytes t.word t.chars t.keptText t.sizeSays t.objectSays t.follows t.textOf t.text t.opened t.shut
     t.finishedObject t.objectAt t.names t.newTraits t.classGiven t.trees t.sealed t.pairsFrom t.pairs t.dynamics t.members t.objectOf t.newOf t.sizedOf t.marked t.value
     t.standard g.validText g.follow h.canHold h.ofTree h.ofTrees h.ofPairs h.ofSealed h.ofPlain h.ofClass h.ofText e.depth e.depthTrees e.depthPairs
-held =
-    (record { tree = _; tables = _; rest = _; bits = octets twins refl; clean = refl; reads = refl; holds = refl; shallow = lit≤ tt; short = lit≤ tt },
-    record { tree = _; tables = _; rest = _; bits = octets second refl; clean = refl; reads = refl; holds = refl; shallow = lit≤ tt; short = lit≤ tt },
-    record { tree = _; tables = _; rest = _; bits = octets letter refl; clean = refl; reads = refl; holds = refl; shallow = lit≤ tt; short = lit≤ tt })
+held = (
+  record { tree = _; tables = _; rest = _; bits = octets twins refl; clean = refl; reads = refl; holds = refl; shallow = lit≤ tt; short = lit≤ tt },
+  record { tree = _; tables = _; rest = _; bits = octets second refl; clean = refl; reads = refl; holds = refl; shallow = lit≤ tt; short = lit≤ tt },
+  record { tree = _; tables = _; rest = _; bits = octets letter refl; clean = refl; reads = refl; holds = refl; shallow = lit≤ tt; short = lit≤ tt },
+)
 
 -- every trait reference refused with 10, loan 5: what the loans can hold is read
 module _ (reads : Memory → List ℕ → Ended)
@@ -107,7 +109,7 @@ module _ (reads : Memory → List ℕ → Ended)
     store-refusal-tells-traits place k e =
         let h = held .2 in
         let w : NoShorter (lent 0) (lent 1) =
-            record { rows = le-refl _; store = lit≤ tt; strings = le-refl _; objects = le-refl _; traits = le-refl _; names = le-refl _ } in
+        record { rows = le-refl _; store = lit≤ tt; strings = le-refl _; objects = le-refl _; traits = le-refl _; names = le-refl _ } in
         let q = enough-held (lent 1) letter 3 h .finishes in
         let f = same-room (lent 0) (lent 1) letter (h .bits) refl (h .clean) w loanTraits place k e refl in
         clash cc
@@ -151,6 +153,15 @@ module _ (feeds : Numbers → Memory → List ℕ → Fed)
   pub unsound-state-waits-on : (state : Numbers) (m : Memory) (b : ℕ) (bs : List ℕ) (x : Mode) (ts : List Frame) (c : Cursor) → stateOf state m ≡ wait x ts c m
       → (Together (state .head .lent) x ts c m → ⊥) → (k : ℕ) → answerIn (feeds state m (b ∷ bs)) ≢ Waiting k
   unsound-state-waits-on state m b bs x ts c e h k w = let q = ap answerIn (apart state m b bs x ts c e h) in clash cc
+
+-- a step that goes on by an entry, a name or a frame out of range
+module _ (feeds : Numbers → Memory → List ℕ → Fed)
+    (strays : (state : Numbers) (m : Memory) (b : ℕ) (bs : List ℕ) (x : Mode) (ts : List Frame) (c : Cursor) → stateOf state m ≡ wait x ts c m
+    → Together (state .head .lent) x ts c m → c .at < messageLimit → Strays b x ts c m
+    → feeds state m (b ∷ bs) ≡ fed (Refused no.lost 0 0 0) (lostNumbers state) (zeroed m)) where
+  pub stray-waits-on : (state : Numbers) (m : Memory) (b : ℕ) (bs : List ℕ) (x : Mode) (ts : List Frame) (c : Cursor) → stateOf state m ≡ wait x ts c m
+      → Together (state .head .lent) x ts c m → c .at < messageLimit → Strays b x ts c m → (k : ℕ) → answerIn (feeds state m (b ∷ bs)) ≢ Waiting k
+  stray-waits-on state m b bs x ts c e h l s k w = let q = ap answerIn (strays state m b bs x ts c e h l s) in clash cc
 
 -- a byte's refusal has its place
 byte-at : (b q n told place : ℕ) → RefusedBy b q n told place → n ≢ no.lost → place ≡ q
@@ -198,5 +209,6 @@ ours =
     let e = lost-tells-nine feedCall demands.feed-named in
     let f = unbegun-waits feedCall demands.unbegun-says in
     let g = unsound-state-waits-on feedCall demands.apart-lost in
-    let h = limit-takes-no-byte feedCall demands.feed-places in
+    let h = stray-waits-on feedCall demands.strays-lost in
+    let i = limit-takes-no-byte feedCall demands.feed-places in
     tt
