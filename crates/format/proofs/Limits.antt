@@ -14,11 +14,11 @@ use Rattle.rows.specs.declared.Key.{Key}
 use Rattle.rows.specs.Memory.{Memory, zeroed, faultOf, messageLimit, openLimit}
 use Rattle.format.specs.declared.Frame.{Frame}
 use Rattle.format.specs.declared.Lent.{Lent}
-use Rattle.format.specs.Step.{Mode, atMarker, atWord, atNumber, atFlag, atText, atRaw, astray, State, wait, over, none, act, step, run, begin, beginAt, end}
+use Rattle.format.specs.Step.{Use, Mode, atMarker, atWord, atNumber, atFlag, atText, atRaw, astray, State, wait, over, none, act, step, run, begin, beginAt, end}
 use Rattle.format.specs.Reading.{refused, taken, reading}
 use Rattle.format.specs.Numbers.{lentOf}
 use Rattle.format.proofs.Tests.{on-bool, clash}
-use Rattle.format.proofs.Reasons.{Lacks, noRow, noStore, noString, noObject, noTrait, noName, Deep, Refusal, unknown, absent, unfinished, external, undated}
+use Rattle.format.proofs.Reasons.{There, byText, byNumber, byNone, Lacks, noRow, noStore, noString, noObject, noTrait, noName, Deep, Refusal, unknown, absent, unfinished, external, undated}
 use Rattle.format.proofs.Reasons.{malformed, astrays, reasons-act}
 use Rattle.format.proofs.Reasons as reasons
 use Rattle.format.proofs.Placed.{Placed, placed-act}
@@ -58,10 +58,10 @@ limit-place (long w l) = let e = awaits-length w in (omega arith, omega arith, o
 pub limit-told : {m : Memory} {bs : List ℕ} {n told place : ℕ} → Limit m bs n told place → cond (eqb n no.noRoom) (no.isLoan told) (eqb told 0) ≡ true
 limit-told (deep w l h k) = refl
 limit-told (full w l (noRow h e)) = refl
-limit-told (full w l (noStore h e)) = refl
-limit-told (full w l (noString e)) = refl
+limit-told (full w l (noStore h i e)) = refl
+limit-told (full w l (noString h e)) = refl
 limit-told (full w l (noObject h i e)) = refl
-limit-told (full w l (noTrait h i e)) = refl
+limit-told (full w l (noTrait h i j e)) = refl
 limit-told (full w l (noName h i e)) = refl
 limit-told (long w l) = refl
 
@@ -165,16 +165,30 @@ decided (b ∷ bs) x ts c m n told place k e l = next (λ y us d o r. decided bs
 
 -- ---- the reasons
 
--- of the loans that were lent, and of the cursor before the byte
+-- a string that is there, by the loans that were lent and the cursor before the byte
+there-lent : {c : Cursor} {k m : Memory} {b : ℕ} {x : Mode} {u : Use} → lentOf k ≡ lentOf m → There (taken c) k b x u → There c m b x u
+unfolding lentOf
+there-lent {k = k} {m = m} e (byText h l) = let q : length (k .strings) ≡ length (m .strings) = ap (λ (l : Lent). l .strings) e in byText h (rw q at l)
+there-lent e (byNumber h i l) = byNumber h i l
+there-lent e (byNone h i) = byNone h i
+
+-- and what is lacking
 lacks-lent : {c : Cursor} {k m : Memory} {b loan : ℕ} {x : Mode} → lentOf k ≡ lentOf m → Lacks (taken c) k b x loan → Lacks c m b x loan
 unfolding lentOf
 lacks-lent {k = k} {m = m} e (noRow h l) = let q : length (k .rows) ≡ length (m .rows) = ap (λ (l : Lent). l .rows) e in noRow h (rw q at l)
-lacks-lent {k = k} {m = m} e (noStore h l) = let q : length (k .store) ≡ length (m .store) = ap (λ (l : Lent). l .store) e in noStore h (rw q at l)
-lacks-lent {k = k} {m = m} e (noString l) = let q : length (k .strings) ≡ length (m .strings) = ap (λ (l : Lent). l .strings) e in noString (rw q at l)
+lacks-lent {k = k} {m = m} e (noStore h i l) =
+    let q : length (k .store) ≡ length (m .store) = ap (λ (l : Lent). l .store) e in
+    let r : length (k .objects) ≡ length (m .objects) = ap (λ (l : Lent). l .objects) e in
+    noStore h (rw r at i) (rw q at l)
+lacks-lent {k = k} {m = m} e (noString h l) = let q : length (k .strings) ≡ length (m .strings) = ap (λ (l : Lent). l .strings) e in noString h (rw q at l)
 lacks-lent {k = k} {m = m} e (noObject h i l) =
     let q : length (k .objects) ≡ length (m .objects) = ap (λ (l : Lent). l .objects) e in noObject h i (rw q at l)
-lacks-lent {k = k} {m = m} e (noTrait h i l) = let q : length (k .traits) ≡ length (m .traits) = ap (λ (l : Lent). l .traits) e in noTrait h i (rw q at l)
-lacks-lent {k = k} {m = m} e (noName h i l) = let q : length (k .names) ≡ length (m .names) = ap (λ (l : Lent). l .names) e in noName h i (rw q at l)
+lacks-lent {k = k} {m = m} e (noTrait h i j l) =
+    let q : length (k .traits) ≡ length (m .traits) = ap (λ (l : Lent). l .traits) e in
+    let r : length (k .names) ≡ length (m .names) = ap (λ (l : Lent). l .names) e in
+    noTrait (there-lent e h) i (rw r at j) (rw q at l)
+lacks-lent {k = k} {m = m} e (noName h i l) =
+    let q : length (k .names) ≡ length (m .names) = ap (λ (l : Lent). l .names) e in noName (there-lent e h) i (rw q at l)
 
 module _ (m : Memory) (bs : List ℕ) where
   -- a marker, where no more are open than can be

@@ -25,10 +25,10 @@ pub data Placed (b p : ℕ) : State → Type 0 where
 -- a loan that lacks room is one of a reading's
 lacks-loan : {c : Cursor} {m : Memory} {b loan : ℕ} {x : Mode} → Lacks c m b x loan → T (leb loanRows loan && leb loan loanNames)
 lacks-loan (noRow h l) = tt
-lacks-loan (noStore h l) = tt
-lacks-loan (noString l) = tt
+lacks-loan (noStore h i l) = tt
+lacks-loan (noString h l) = tt
 lacks-loan (noObject h i l) = tt
-lacks-loan (noTrait h i l) = tt
+lacks-loan (noTrait h i j l) = tt
 lacks-loan (noName h i l) = tt
 
 module _ {D : Type 0} {E : ℕ → Type 0} (loans : (loan : ℕ) → E loan → T (leb loanRows loan && leb loan loanNames)) {b p : ℕ} where

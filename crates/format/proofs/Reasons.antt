@@ -1,13 +1,13 @@
 -- A byte's refusal has its reason. Any number but 12 has the place of the byte itself, and tells what document 01 says; the loans are zeroed. 9 comes of a marker where
 -- as many values are open as can be; 10 of a byte that asks for an entry, or for bytes, of a loan that has no more of them.
-use mathlib.Core.Path.{_≡_, refl}
+use mathlib.Core.Path.{_≡_, refl, ap, _∙_}
 use mathlib.Core.Bool.{Bool, true, false, cond, not}
 use mathlib.Core.List.{List, [], _∷_}
 use Prim.Native.Nat.{ℕ, zero, suc, _+_, _*_, _-_, _/_, _≤_, _<_}
 use native.Mathlib.Omega.{arith}
 use lib.Dec.{leb, ltb, eqb}
 use lib.ListN.{length}
-use borrow.Author.Tests.{leb-true, ltb-true, ltb-false, eqb-true}
+use borrow.Author.Tests.{leb-true, leb-false, ltb-true, ltb-false, eqb-true}
 use Rattle.rows.specs.declared.Cursor.{Cursor}
 use Rattle.rows.specs.declared.Span.{Span}
 use Rattle.rows.specs.declared.Key.{Key}
@@ -40,7 +40,7 @@ use Rattle.format.specs.Step.{had, textDone, reservedFor, stringSized, r
 use Rattle.format.specs.Step.{flagDone, rawGrown, begun, shown, onPart, act}
 use Rattle.format.specs.Reading.{finished, refused}
 use Rattle.format.specs.Refusals as refusals
-pub use Rattle.format.specs.Limits.{asked, NewSize, NewShape, Enters, IsName, EndsTrait, Closes, byText, byWord, Lacks, noRow, noStore, noString, noObject}
+pub use Rattle.format.specs.Limits.{asked, NewSize, NewShape, Enters, IsName, EndsTrait, There, byText, byNumber, byNone, Lacks, noRow, noStore, noString, noObject}
 pub use Rattle.format.specs.Limits.{noTrait, noName}
 
 -- ---- what a byte asks of the loans
@@ -54,6 +54,11 @@ Deep (atFlag f) b ts = ⊥
 Deep (atText x s left test) b ts = ⊥
 Deep (atRaw r s left) b ts = ⊥
 Deep astray b ts = ⊥
+
+-- a string's size, by which it is there at once
+abbrev SizeThere : Cursor → Size → Type 0
+SizeThere c (Old i) = i < c .strings
+SizeThere c (New n) = n ≡ 0
 
 -- ---- what is refused
 
@@ -293,32 +298,36 @@ module _ {D : Type 0} {E : ℕ → Type 0} {b p : ℕ} where
     placed-naming row t zero c m e f = placed-on _ m _ (says-lift _ (says-trait-end c e t (m .traits) (f refl))) (λ x. placed-onward _)
     placed-naming row t (suc n) c m e f = search placing
 
-    placed-had : (u : Use) (s : Span) (c : Cursor) (m : Memory) → c .at ≡ p → (EndsTrait u → length (m .traits) / traitWidth ≤ c .traits → E loanTraits)
+    placed-had : (u : Use) (s : Span) (c : Cursor) (m : Memory) → c .at ≡ p
+        → (EndsTrait u → (IsName u → c .names < length (m .names) / spanWidth) → length (m .traits) / traitWidth ≤ c .traits → E loanTraits)
         → (IsName u → length (m .names) / spanWidth ≤ c .names → E loanNames) → Placed D E b p (had ts u s c m)
     unfolding had objectClass classed named
     placed-had (forString row) s c m e f g = search (placing, says-bodied, says-closed, placed-pop) depth 8
     placed-had (forKey q) s c m e f g = placed-keyed q s (s .size) c m e
     placed-had (forClass row n y) s c m e f g =
-        placed-test _ m _ (rowUsed (m .rows) c row) _ _ (λ l. placed-naming row (traitOf s n y c) n c _ e f) (λ l. placed-broken m)
+        placed-test _ m _ (rowUsed (m .rows) c row) _ _ (λ l. placed-naming row (traitOf s n y c) n c _ e (λ q. f q (λ z. absurd z))) (λ l. placed-broken m)
     placed-had forExternal s c m e f g = declines m (external e) refl
     placed-had (forName row t n) s c m e f g =
         placed-test _ m _ (ltb (length (m .names) / spanWidth) (c .names)) _ _ (λ l. placed-broken m) (λ l.
         placed-test _ m _ (leb (length (m .names) / spanWidth) (c .names)) _ _
-        (λ i. declines m (full (g tt (leb-true (length (m .names) / spanWidth) (c .names) i)) e) refl) (λ i. placed-naming row t n _ _ e f))
+        (λ i. declines m (full (g tt (leb-true (length (m .names) / spanWidth) (c .names) i)) e) refl) (λ i. placed-naming row t n _ _ e (λ q. f q (λ z. leb-false (length (m .names) / spanWidth) (c .names) i))))
     placed-had (forVector row n) s c m e f g = search (placing, says-starred, says-vector, placed-onward) depth 8
 
     placed-text : (x : Text) (s : Span) (valid : Bool) (c : Cursor) (m : Memory) → c .at ≡ p
-        → ((u : Use) → x ≡ tableText u → EndsTrait u → length (m .traits) / traitWidth ≤ c .traits → E loanTraits)
-        → ((u : Use) → x ≡ tableText u → IsName u → length (m .names) / spanWidth ≤ c .names → E loanNames)
-        → ((u : Use) → x ≡ tableText u → length (m .strings) / spanWidth ≤ c .strings → E loanStrings) → Placed D E b p (textDone ts x s valid c m)
+        → ((u : Use) → x ≡ tableText u → valid ≡ true → c .strings < length (m .strings) / spanWidth → EndsTrait u
+        → (IsName u → c .names < length (m .names) / spanWidth) → length (m .traits) / traitWidth ≤ c .traits → E loanTraits)
+        → ((u : Use) → x ≡ tableText u → valid ≡ true → c .strings < length (m .strings) / spanWidth → IsName u
+        → length (m .names) / spanWidth ≤ c .names → E loanNames)
+        → ((u : Use) → x ≡ tableText u → valid ≡ true → length (m .strings) / spanWidth ≤ c .strings → E loanStrings) → Placed D E b p (textDone ts x s valid c m)
     unfolding textDone textEnd
     placed-text (xmlText row) s valid c m e f g h = search (placing, says-judged, says-closed, placed-pop) depth 8
     placed-text (tableText u) s valid c m e f g h =
         placed-test _ m _ (ltb (length (m .strings) / spanWidth) (c .strings)) _ _ (λ l. placed-broken m) (λ l.
         placed-test _ m _ valid _ _ (λ v.
         placed-test _ m _ (leb (length (m .strings) / spanWidth) (c .strings)) _ _
-        (λ i. declines m (full (h u refl (leb-true (length (m .strings) / spanWidth) (c .strings) i)) e) refl)
-        (λ i. placed-had u s _ _ e (f u refl) (g u refl))) (λ v. declines m (malformed e) refl))
+        (λ i. declines m (full (h u refl v (leb-true (length (m .strings) / spanWidth) (c .strings) i)) e) refl)
+        (λ i. let o = leb-false (length (m .strings) / spanWidth) (c .strings) i in placed-had u s _ _ e (f u refl v o) (g u refl v o)))
+        (λ v. declines m (malformed e) refl))
 
     pub says-use : (u : Use) (s : Span) (c : Cursor) (m : Memory) → c .at ≡ p → Says D E b p (reservedFor u s m c)
     unfolding reservedFor
@@ -330,15 +339,16 @@ module _ {D : Type 0} {E : ℕ → Type 0} {b p : ℕ} where
     says-use (forVector row n) s c m e = goes e
 
     placed-string : (u : Use) (z : Size) (c : Cursor) (m : Memory) → c .at ≡ p
-        → (asked (textWord u) z ≡ 0 → EndsTrait u → length (m .traits) / traitWidth ≤ c .traits → E loanTraits)
-        → (asked (textWord u) z ≡ 0 → IsName u → length (m .names) / spanWidth ≤ c .names → E loanNames)
+        → (SizeThere c z → EndsTrait u → (IsName u → c .names < length (m .names) / spanWidth) → length (m .traits) / traitWidth ≤ c .traits → E loanTraits)
+        → (SizeThere c z → IsName u → length (m .names) / spanWidth ≤ c .names → E loanNames)
         → (length (m .store) < c .store + asked (textWord u) z → E loanStore)
         → Placed D E b p (stringSized ts u z c m)
     unfolding stringSized oldText
     placed-string u (Old i) c m e f g h =
         placed-test _ m _ (ltb (length (m .strings) / spanWidth) (c .strings)) _ _ (λ l. placed-broken m) (λ l.
         placed-test _ m _ (leb (c .strings) i) _ _ (λ l. declines m (absent e) refl) (λ l.
-        placed-test _ m _ (spanUsed c (spanAt (m .strings) i)) _ _ (λ l. placed-had u (spanAt (m .strings) i) c m e (f refl) (g refl)) (λ l. placed-broken m)))
+        let o = leb-false (c .strings) i l in
+        placed-test _ m _ (spanUsed c (spanAt (m .strings) i)) _ _ (λ l. placed-had u (spanAt (m .strings) i) c m e (f o) (g o)) (λ l. placed-broken m)))
     placed-string u (New zero) c m e f g h = placed-had u noSpan c m e (f refl) (g refl)
     placed-string u (New (suc n)) c m e f g h =
         placed-on _ m _ (says-lift _ (says-reserved c e (suc n) (m .store) h)) (λ s d m e. placed-on _ m _ (says-use u s d m e) (λ x d m. waits))
@@ -372,14 +382,15 @@ module _ {D : Type 0} {E : ℕ → Type 0} {b p : ℕ} where
     placed-opened row dictionary n c m e h = search placing
 
     placed-body : (row : ℕ) (body : Body) (z : Size) (c : Cursor) (m : Memory) → c .at ≡ p → (NewSize z → length (m .objects) ≤ c .objects → E loanObjects)
-        → (length (m .store) < c .store + asked (sizeWord row body) z → E loanStore) → Placed D E b p (bodySized ts row body z c m)
+        → ((NewSize z → c .objects < length (m .objects)) → length (m .store) < c .store + asked (sizeWord row body) z → E loanStore)
+        → Placed D E b p (bodySized ts row body z c m)
     unfolding bodySized entered
     placed-body row body (Old i) c m e f h = search (placing, says-referred, placed-pop)
     placed-body row body (New n) c m e f h =
         placed-test _ m _ (leb (c .rows) row) _ _ (λ l. placed-broken m) (λ l.
         placed-test _ m _ (ltb (length (m .objects)) (c .objects)) _ _ (λ l. placed-broken m) (λ l.
         placed-test _ m _ (leb (length (m .objects)) (c .objects)) _ _ (λ i. declines m (full (f tt (leb-true (length (m .objects)) (c .objects) i)) e) refl)
-        (λ i. placed-opened row body n _ _ e h)))
+        (λ i. placed-opened row body n _ _ e (h (λ z. leb-false (length (m .objects)) (c .objects) i)))))
 
     placed-object : (row : ℕ) (z : Shape) (c : Cursor) (m : Memory) → c .at ≡ p → (NewShape z → length (m .objects) ≤ c .objects → E loanObjects)
         → Placed D E b p (objectShaped ts row z c m)
@@ -431,15 +442,23 @@ module _ {b p : ℕ} (ts : List Frame) (c : Cursor) (m : Memory) (e : c .at ≡ 
   placed-word (integerWord row) left part n q = search (placing, says-integer, placed-pop)
   placed-word (objectWord row) left part n q = placed-object ts row (shapeOf n) c m e (noObject q)
   placed-word (sizeWord row body) left part n q = placed-body ts row body (sizeOf n) c m e (noObject q) (noStore q)
-  placed-word (textWord u) left part n q = placed-string ts u (sizeOf n) c m e (λ h. noTrait (byWord q h)) (λ h. noName (byWord q h)) (noStore q)
+  placed-word (textWord u) left part n q =
+      placed-string ts u (sizeOf n) c m e (λ h. noTrait (there (sizeOf n) refl h)) (λ h. noName (there (sizeOf n) refl h)) (noStore q (λ z. absurd z))
+    where
+      there : (z : Size) → sizeOf n ≡ z → SizeThere c z → There c m b (atWord (textWord u) left part) u
+      there (Old i) k h = byNumber q k h
+      there (New i) k h = byNone q (k ∙ ap (λ (j : ℕ). New j) h)
 
   -- a text's last byte
-  placed-last : (x : Text) (s : Span) (test : ℕ) (valid : Bool) (B : List ℕ)
+  placed-last : (x : Text) (s : Span) (test : ℕ) (B : List ℕ)
       → Placed (Deep (atText x s zero test) b ts) (Lacks c m b (atText x s zero test)) b p
-      (textDone ts x s valid c (memory (m .rows) B (m .strings) (m .objects) (m .traits) (m .names)))
-  placed-last x s test valid B =
-      placed-text ts x s valid c (memory (m .rows) B (m .strings) (m .objects) (m .traits) (m .names)) e (λ u q i l. rw q (noTrait byText i l))
-      (λ u q i l. rw q (noName byText i l)) (λ u q l. rw q (noString l))
+      (textDone ts x s (eqb (stepOf test b) 0) c (memory (m .rows) B (m .strings) (m .objects) (m .traits) (m .names)))
+  placed-last x s test B =
+      placed-text ts x s (eqb (stepOf test b) 0) c (memory (m .rows) B (m .strings) (m .objects) (m .traits) (m .names)) e
+      (λ u q v o i j l. rw q (noTrait (byText (valid v) o) i j l)) (λ u q v o i l. rw q (noName (byText (valid v) o) i l)) (λ u q v l. rw q (noString (valid v) l))
+    where
+      valid : eqb (stepOf test b) 0 ≡ true → stepOf test b ≡ 0
+      valid v = eqb-true (stepOf test b) 0 v
 
   -- what byte b makes of a mode, the cursor already past it
   pub reasons-act : (x : Mode) → Placed (Deep x b ts) (Lacks c m b x) b p (act x b ts c m)
@@ -453,7 +472,7 @@ module _ {b p : ℕ} (ts : List Frame) (c : Cursor) (m : Memory) (e : c .at ≡ 
   reasons-act (atText x s zero t) =
       placed-test _ m _ (ltb (length (m .store)) (c .store)) _ _ (λ l. placed-broken m) (λ l.
       placed-test _ m _ (leb (s .size) zero) _ _ (λ l. placed-broken m) (λ l.
-      placed-test _ m _ (spanUsed c s) _ _ (λ l. placed-last x s t (eqb (stepOf t b) 0) _) (λ l. placed-broken m)))
+      placed-test _ m _ (spanUsed c s) _ _ (λ l. placed-last x s t _) (λ l. placed-broken m)))
   reasons-act (atText x s (suc n) t) = search (placing, says-stored) depth 8
   reasons-act (atRaw r s n) = search (placing, says-stored, says-raw, placed-filling) depth 10
   reasons-act astray = placed-broken m

@@ -16,6 +16,7 @@ use Rattle.wire.specs.declared.Shape.{Shape}
 use Rattle.wire.specs.declared.Shape.the-variants.{Object, Known, External, Inline}
 use Rattle.wire.specs.U29.{partOf}
 use Rattle.wire.specs.Word.{sizeOf, shapeOf}
+use Rattle.utf8.specs.States.{stepOf}
 use Rattle.format.specs.declared.Frame.{Frame}
 use Rattle.format.specs.Decide.{widthOf, xml, date, array, bytes, raw, objects, dictionary}
 use Rattle.format.specs.Step.{Use, forString, forKey, forClass, forExternal, forName, forVector, tableText, Word, integerWord, objectWord, sizeWord}
@@ -79,21 +80,24 @@ EndsTrait forExternal = ⊥
 EndsTrait (forName row t n) = n ≡ 0
 EndsTrait (forVector row n) = ⊥
 
--- byte b ends this string: the last byte of its text, or of its word where that is a reference or says that it is empty
-pub data Closes (b : ℕ) : Mode → Use → Type 0 where
-  byText : {u : Use} {s : Span} {test : ℕ} → Closes b (atText (tableText u) s zero test) u
-  byWord : {u : Use} {left part w : ℕ} → partOf left part b ≡ Whole w → asked (textWord u) (sizeOf w) ≡ 0 → Closes b (atWord (textWord u) left part) u
+-- byte b ends this string, and it is there: a text that is valid and has room among the strings, a string by number, or the empty one
+pub data There (c : Cursor) (m : Memory) (b : ℕ) : Mode → Use → Type 0 where
+  byText : {u : Use} {s : Span} {test : ℕ} → stepOf test b ≡ 0 → c .strings < length (m .strings) / spanWidth → There c m b (atText (tableText u) s zero test) u
+  byNumber : {u : Use} {left part w i : ℕ} → partOf left part b ≡ Whole w → sizeOf w ≡ Old i → i < c .strings → There c m b (atWord (textWord u) left part) u
+  byNone : {u : Use} {left part w : ℕ} → partOf left part b ≡ Whole w → sizeOf w ≡ New zero → There c m b (atWord (textWord u) left part) u
 
--- byte b, for a mode, asks for more of a loan of m than is left of it: for an entry, and all are used; of the store for bytes
+-- byte b, for a mode, asks for more of a loan of m than is left of it, and of no loan before that one: for an entry, and all are used; of the store for bytes
 pub data Lacks (c : Cursor) (m : Memory) (b : ℕ) : Mode → ℕ → Type 0 where
   noRow : {k : Key} → b ≤ 0x11 → length (m .rows) / rowWidth ≤ c .rows → Lacks c m b (atMarker k) loanRows
-  noStore : {w : Word} {left part n : ℕ} → partOf left part b ≡ Whole n → length (m .store) < c .store + asked w (sizeOf n)
-      → Lacks c m b (atWord w left part) loanStore
-  noString : {u : Use} {s : Span} {test : ℕ} → length (m .strings) / spanWidth ≤ c .strings → Lacks c m b (atText (tableText u) s zero test) loanStrings
+  noStore : {w : Word} {left part n : ℕ} → partOf left part b ≡ Whole n → (Enters w n → c .objects < length (m .objects))
+      → length (m .store) < c .store + asked w (sizeOf n) → Lacks c m b (atWord w left part) loanStore
+  noString : {u : Use} {s : Span} {test : ℕ} → stepOf test b ≡ 0 → length (m .strings) / spanWidth ≤ c .strings
+      → Lacks c m b (atText (tableText u) s zero test) loanStrings
   noObject : {w : Word} {left part n : ℕ} → partOf left part b ≡ Whole n → Enters w n → length (m .objects) ≤ c .objects
       → Lacks c m b (atWord w left part) loanObjects
-  noTrait : {x : Mode} {u : Use} → Closes b x u → EndsTrait u → length (m .traits) / traitWidth ≤ c .traits → Lacks c m b x loanTraits
-  noName : {x : Mode} {u : Use} → Closes b x u → IsName u → length (m .names) / spanWidth ≤ c .names → Lacks c m b x loanNames
+  noTrait : {x : Mode} {u : Use} → There c m b x u → EndsTrait u → (IsName u → c .names < length (m .names) / spanWidth)
+      → length (m .traits) / traitWidth ≤ c .traits → Lacks c m b x loanTraits
+  noName : {x : Mode} {u : Use} → There c m b x u → IsName u → length (m .names) / spanWidth ≤ c .names → Lacks c m b x loanNames
 
 -- ---- why it is refused
 

@@ -137,7 +137,7 @@ pub data TaskCode : ℕ → Type 0 where
   keysTask : TaskCode taskKeys
   valuesTask : TaskCode taskValues
 
--- a frame's row is used, and each of its finished entries has a row
+-- a frame's task is one of the seven, its row is used, and each of its finished entries has a row
 pub record FrameIn (f : Frame) (c : Cursor) : Type 0 where
   pub code : TaskCode (f .task)
   pub here : RowIn (f .row) c

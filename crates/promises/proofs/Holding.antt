@@ -14,11 +14,12 @@ use Rattle.format.specs.declared.Lent.{Lent}
 use Rattle.format.specs.declared.Frame.{Frame}
 use Rattle.format.specs.Decide.{traitAt, namesTo}
 use Rattle.format.specs.Reading.{taken}
-use Rattle.format.specs.Step.{Mode, atMarker, wait}
+use Rattle.format.specs.Step.{Mode, atMarker, wait, forName}
 use Rattle.format.specs.Numbers.{Numbers, stateOf, lentOf}
 use Rattle.format.specs.Answers.{feedCall}
 use Rattle.format.specs.Together.{SpanIn, ModeIn, FrameFits, FramesFit, TraitIn, Made, HoldsTogether}
-use Rattle.format.specs.Strays.{FrameStrays, frame, name, outer, Named-by, text, old, empty, Strays, string, object, trait, traitName, made, madeName, around}
+use Rattle.format.specs.Limits.{There, byText, byNumber, byNone}
+use Rattle.format.specs.Strays.{FrameStrays, thisFrame, nextName, outerFrame, Strays, stringEntry, objectEntry, traitEntry, entryName, newTrait, newTraitName, frames}
 use Rattle.format.proofs.Used.{Grows, row-up}
 use Rattle.format.proofs.Kept.{faultIn, fault-in}
 use Rattle.format.proofs.Along.{lends-zeroed}
@@ -48,29 +49,29 @@ module _ {c d : Cursor} (g : Grows c d) where
 
 -- no frame
 frames-hold : {ts : List Frame} {c : Cursor} {m : Memory} → FrameStrays ts c m → Room c m → FramesFit ts c → ((i : ℕ) → i < c .names → SpanIn (spanAt (m .names) i) c) → ⊥
-frames-hold (frame z) h (f, fs) s = z (f .reads)
-frames-hold (name i e o z) h (f, fs) s = let l = f .next e o in z (l, s _ l)
-frames-hold (outer {f = f} {ts = ts} {c = c} {d = d} {m = m} {k = k} q z) h (g, gs) s =
+frames-hold (thisFrame z) h (f, fs) s = z (f .reads)
+frames-hold (nextName i e o z) h (f, fs) s = let l = f .next e o in z (l, s _ l)
+frames-hold (outerFrame {f = f} {ts = ts} {c = c} {d = d} {m = m} {k = k} q z) h (g, gs) s =
     let (e, w) = twin-finished d k (twin-frame f ts c m h) q in
     frames-hold z (w .room) (frames-up (w .since) ts gs) (λ i l. w .names i (s i) l)
 
 -- no trait whose last name comes
-named-holds : {b : ℕ} {t : Trait} {c : Cursor} {m : Memory} {x : Mode} → Named-by b t c m x → ModeIn x c → Made x c → TraitIn t (namesTo c (c .names + 1))
-named-holds (text e r) ((((l, k), f), s), p) z = (k, z refl)
-named-holds (old e q o s) (((l, k), f), p) z = (k, z refl)
-named-holds (empty e q) (((l, k), f), p) z = (k, z refl)
+named-holds : {b row : ℕ} {t : Trait} {c : Cursor} {m : Memory} {x : Mode} → There c m b x (forName row t 0) → ModeIn x c → Made x c → TraitIn t (namesTo c (c .names + 1))
+named-holds (byText e r) ((((l, k), f), s), p) z = (k, z refl)
+named-holds (byNumber e q o) (((l, k), f), p) z = (k, z refl)
+named-holds (byNone e q) (((l, k), f), p) z = (k, z refl)
 
 -- nothing that a byte looks up
 holds-strays : {b : ℕ} {lent : Lent} {x : Mode} {ts : List Frame} {c : Cursor} {m : Memory} → HoldsTogether lent x ts c m → Strays b x ts c m → ⊥
-holds-strays h (string e q o f) = f (h .entries .strings _ o)
-holds-strays h (object e q o f) = f (h .entries .objects _ o)
-holds-strays h (trait e q r o f) = f (h .entries .traits _ o)
-holds-strays h (traitName {i = i} {c = c} {m = m} e q r o (s, t) p f) =
+holds-strays h (stringEntry e q o f) = f (h .entries .strings _ o)
+holds-strays h (objectEntry e q o f) = f (h .entries .objects _ o)
+holds-strays h (traitEntry e q r o f) = f (h .entries .traits _ o)
+holds-strays h (entryName {i = i} {c = c} {m = m} e q r o (s, t) p f) =
     let l : traitAt (m .traits) i .first < c .names = omega arith in
     f (l, h .entries .names _ l)
-holds-strays h (made n r f) = f (named-holds n (h .together .works) (h .made))
-holds-strays h (madeName n r t u p l f) = f (h .entries .names _ l)
-holds-strays {b} h (around {x = x} {ts = ts} {c = c} {d = d} {m = m} {k = k} o e s) =
+holds-strays h (newTrait n r f) = f (named-holds n (h .together .works) (h .made))
+holds-strays h (newTraitName n r t u p l f) = f (h .entries .names _ l)
+holds-strays {b} h (frames {x = x} {ts = ts} {c = c} {d = d} {m = m} {k = k} o e s) =
     let (q, w) = twin-finished d k (twin-act b ts c m x o (sits-first (taken c) m (together-room (h .together))) (h .together .works)) e in
     frames-hold s (w .room) (frames-up (w .since) ts (frames-up {c = c} (omega arith) ts (h .frames))) (λ i l. w .names i (h .entries .names i) l)
 

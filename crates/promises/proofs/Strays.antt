@@ -5,7 +5,7 @@ use mathlib.Core.List.{List, [], _∷_}
 use Prim.Native.Nat.{ℕ, zero, suc, _+_, _*_, _-_, _/_, _^_, _≤_, _<_}
 use native.Mathlib.Omega.{arith}
 use native.Mathlib.Decide.{decLt}
-use borrow.Author.Tests.{leb-true, eqb-true, lt-ltb, le-ltb, le-leb, lt-leb, eq-eqb}
+use borrow.Author.Tests.{leb-true, eqb-true, lt-ltb, le-ltb, le-leb, lt-leb, eq-eqb, leb-false}
 use lib.Dec.{ltb, eqb}
 use lib.ListN.{length, getD, set, length-set}
 use lib.Seq.{sets, length-sets}
@@ -36,7 +36,8 @@ use Rattle.format.specs.Answers.{fed, feedCall}
 use Rattle.format.specs.Claims.{lostNumbers}
 use Rattle.format.specs.Together.{TaskCode, pairsTask, dynamicsTask, denseTask, vectorTask, membersTask, keysTask, valuesTask, Counts, Fits, Together}
 use Rattle.format.specs.Together.{RowIn, SpanIn, ModeIn, FrameIn, TraitIn, ObjectIn, NameIn}
-use Rattle.format.specs.Strays.{FrameStrays, Refers, Named-by, Strays, name, outer, text, old, empty, string, object, trait, traitName, made, madeName, around}
+use Rattle.format.specs.Limits.{There, byText, byNumber, byNone}
+use Rattle.format.specs.Strays.{FrameStrays, Refers, Strays, nextName, outerFrame, stringEntry, objectEntry, traitEntry, entryName, newTrait, newTraitName, frames}
 use Rattle.format.specs.Strays as out
 use Rattle.format.proofs.Tests.{on-bool, clash}
 use Rattle.format.proofs.Lists.{Kept, kept-sets}
@@ -116,17 +117,17 @@ module _ (f : Frame) (ts : List Frame) (c : Cursor) (m : Memory) where
 
   -- a frame whose row or entries stray
   frame-out : (RowIn (f .row) c × (f .done < c .rows) → ⊥) → FrameStrays (f ∷ ts) c m
-  frame-out z = out.frame (λ h. z (h .here, h .counted))
+  frame-out z = out.thisFrame (λ h. z (h .here, h .counted))
 
   -- what is known where it strays, by its task
   entry-strays : (t : Task) → Coded f t → EntryStrays frame-watch t
   entry-strays t (pairing k) = frame-out
   entry-strays t (dynamic k) = frame-out
   entry-strays t (item i k) = frame-out
-  entry-strays t (member k e) = (frame-out, λ (l, o) n z. name (record { code = k; here = l; counted = o }) e n z)
+  entry-strays t (member k e) = (frame-out, λ (l, o) n z. nextName (record { code = k; here = l; counted = o }) e n z)
   entry-strays t (key k) = frame-out
   entry-strays t (value k) = frame-out
-  entry-strays t (other x) = out.frame (λ h. x (h .code))
+  entry-strays t (other x) = out.thisFrame (λ h. x (h .code))
 
   -- the frame goes on beside the same with none around it
   pub twin-frame : Room c m → Twin frame-watch ts (pop (f ∷ ts) c m) (pop (f ∷ []) c m)
@@ -137,7 +138,7 @@ module _ (f : Frame) (ts : List Frame) (c : Cursor) (m : Memory) where
 pop-strays : (ts : List Frame) (c : Cursor) (m l : Memory) → Room c m → pop ts c m ≡ over (refused refusals.lost 0 0 l) → FrameStrays ts c m
 unfolding pop
 pop-strays [] c m l h e = clash cc
-pop-strays (f ∷ ts) c m l h e = twin-lost l (twin-frame f ts c m h) e (λ x. x) (λ d k q s r. outer q (pop-strays ts d k l (s .room) r))
+pop-strays (f ∷ ts) c m l h e = twin-lost l (twin-frame f ts c m h) e (λ x. x) (λ d k q s r. outerFrame q (pop-strays ts d k l (s .room) r))
 
 -- ---- what a decision gives, and where it is 12
 
@@ -296,9 +297,9 @@ entry-name-lost f ts c m h i e o z =
 -- where a value is finished, what strays is 12
 pop-lost : {ts : List Frame} {c : Cursor} {m : Memory} → FrameStrays ts c m → Room c m → Lostly (pop ts c m)
 unfolding pop
-pop-lost (out.frame {f = f} {ts = ts} {c = c} {m = m} z) h = entry-lost f (taskOf f) c m (λ t. go (pop ts) ts t) (coded f) z
-pop-lost (name {f = f} {ts = ts} {c = c} {m = m} i e o z) h = entry-name-lost f ts c m h i e o z
-pop-lost (outer {f = f} {ts = ts} {c = c} {d = d} {m = m} {k = k} q s) h =
+pop-lost (out.thisFrame {f = f} {ts = ts} {c = c} {m = m} z) h = entry-lost f (taskOf f) c m (λ t. go (pop ts) ts t) (coded f) z
+pop-lost (nextName {f = f} {ts = ts} {c = c} {m = m} i e o z) h = entry-name-lost f ts c m h i e o z
+pop-lost (outerFrame {f = f} {ts = ts} {c = c} {d = d} {m = m} {k = k} q s) h =
     let (e, g) = twin-finished d k (twin-frame f ts c m h) q in
     let (l, r) = pop-lost s (g .room) in
     (l, e ∙ r)
@@ -340,17 +341,19 @@ module _ (b : ℕ) (ts : List Frame) (c : Cursor) (m : Memory) (h : Room (taken 
         (rw z (λ a s. f (a, s))))
 
   -- a trait's last name is there: it is had where no name and no trait was added
-  comes-named : (X : State → Type 0) (t : Trait) {x : Mode} → Named-by b t c m x → ModeIn x c
-      → ((row : ℕ) (s : Span) (d : Cursor) (k : Memory) → Room d k → Still (watch b ts c m x) d k → X (had ts (forName row t 0) s d k)) → X (act x b ts (taken c) m)
+  comes-named : (row : ℕ) (t : Trait) {x : Mode} → There c m b x (forName row t 0) → ModeIn x c
+      → ((s : Span) (d : Cursor) (k : Memory) → Room d k → Still (watch b ts c m x) d k → Lostly (had ts (forName row t 0) s d k)) → Lostly (act x b ts (taken c) m)
   unfolding act textDone worded stringSized
-  comes-named X t (text {row = row} {test = test} {s = s} e r) ((l, (sp, left)), p) f =
+  comes-named row t (byText {s = s} {test = test} e r) ((l, (sp, left)), p) f =
       let u = length-set (m .store) (s .begin + (s .size - 1)) b in
       let y = length-sets (m .strings) (c .strings * spanWidth) (s .begin ∷ s .size ∷ []) in
       rw (stored-gives (taken c) s 0 b (m .store) (h .store) sp left, text-end-gives (taken c) s (eqb (stepOf test b) 0) (m .strings) r (eq-eqb _ _ e))
-      (f row s _ _ (omega arith) (((refl, refl), refl), (refl, refl)))
-  comes-named X t (old {row = row} {i = i} e q o sp) l f =
-      rw (e, q, text-gives (taken c) i (m .strings) (h .strings) o sp) (f row _ _ _ h (((refl, refl), refl), (refl, refl)))
-  comes-named X t (empty {row = row} e q) l f = rw (e, q) (f row _ _ _ h (((refl, refl), refl), (refl, refl)))
+      (f s _ _ (omega arith) (((refl, refl), refl), (refl, refl)))
+  comes-named row t (byNumber {left = left} {part = part} {w = n} {i = i} e q o) l f =
+      on-bool (spanUsed c (spanAt (m .strings) i))
+      (λ u. rw (e, q, text-gives (taken c) i (m .strings) (h .strings) o (leb-true _ _ u)) (f _ _ _ h (((refl, refl), refl), (refl, refl))))
+      (λ u. string-lost (forName row t 0) left part n i e q o (λ s. omega (arith, s, leb-false (spanAt (m .strings) i .begin + spanAt (m .strings) i .size) (c .store) u)))
+  comes-named row t (byNone e q) l f = rw (e, q) (f _ _ _ h (((refl, refl), refl), (refl, refl)))
 
 -- a trait that strays with its last name is 12
 made-lost : (ts : List Frame) (row : ℕ) (t : Trait) (s : Span) (c : Cursor) (m : Memory) → Room c m → c .names < length (m .names) / spanWidth
@@ -375,18 +378,18 @@ made-name-lost ts row t s c m h r i u p o f =
 
 -- whatever a byte looks up that strays is 12
 act-lost : {b : ℕ} {x : Mode} {ts : List Frame} {c : Cursor} {m : Memory} → Strays b x ts c m → Room (taken c) m → ModeIn x c → Lostly (act x b ts (taken c) m)
-act-lost {b} (string {u = u} {left = left} {part = part} {w = n} {i = i} {ts = ts} {c = c} {m = m} e q o f) h l = string-lost b ts c m h u left part n i e q o f
-act-lost {b} (object {x = x} {left = left} {part = part} {w = n} {i = i} {ts = ts} {c = c} {m = m} e q o f) h l = object-lost b ts c m h x left part n i e q o f
-act-lost {b} (trait {row = row} {left = left} {part = part} {w = n} {i = i} {ts = ts} {c = c} {m = m} e q r o f) h (l, p) =
+act-lost {b} (stringEntry {u = u} {left = left} {part = part} {w = n} {i = i} {ts = ts} {c = c} {m = m} e q o f) h l = string-lost b ts c m h u left part n i e q o f
+act-lost {b} (objectEntry {x = x} {left = left} {part = part} {w = n} {i = i} {ts = ts} {c = c} {m = m} e q o f) h l = object-lost b ts c m h x left part n i e q o f
+act-lost {b} (traitEntry {row = row} {left = left} {part = part} {w = n} {i = i} {ts = ts} {c = c} {m = m} e q r o f) h (l, p) =
     trait-lost b ts c m h row left part n i e q l r o f
-act-lost {b} (traitName {row = row} {left = left} {part = part} {w = n} {i = i} {ts = ts} {c = c} {m = m} e q r o t z f) h (l, p) =
+act-lost {b} (entryName {row = row} {left = left} {part = part} {w = n} {i = i} {ts = ts} {c = c} {m = m} e q r o t z f) h (l, p) =
     trait-name-lost b ts c m h row left part n i e q l r o t z f
-act-lost {b} (made {x = x} {t = t} {ts = ts} {c = c} {m = m} n r f) h l =
-    comes-named b ts c m h Lostly t n l (λ row s d k g (((a, u), st), (y, z)). made-lost ts row t s d k g (rw (a, y) r) (rw (a, st) f))
-act-lost {b} (madeName {x = x} {t = t} {ts = ts} {c = c} {m = m} n r i w p o f) h l =
-    comes-named b ts c m h Lostly t n l (λ row s d k g (((a, u), st), (y, z)).
+act-lost {b} (newTrait {x = x} {row = row} {t = t} {ts = ts} {c = c} {m = m} n r f) h l =
+    comes-named b ts c m h row t n l (λ s d k g (((a, u), st), (y, z)). made-lost ts row t s d k g (rw (a, y) r) (rw (a, st) f))
+act-lost {b} (newTraitName {x = x} {row = row} {t = t} {ts = ts} {c = c} {m = m} n r i w p o f) h l =
+    comes-named b ts c m h row t n l (λ s d k g (((a, u), st), (y, z)).
     made-name-lost ts row t s d k g (rw (a, y) r) (rw (a, st) i) (rw (u, z) w) p (rw a o) (rw (y, st) f))
-act-lost {b} (around {x = x} {ts = ts} {c = c} {d = d} {m = m} {k = k} o e s) h l =
+act-lost {b} (frames {x = x} {ts = ts} {c = c} {d = d} {m = m} {k = k} o e s) h l =
     let (q, g) = twin-finished d k (twin-act b ts c m x o (sits-first (taken c) m h) l) e in
     let (z, r) = pop-lost s (g .room) in
     (z, q ∙ r)
@@ -407,7 +410,7 @@ module _ (b : ℕ) (ts : List Frame) (c : Cursor) (m l : Memory) (h : Room (take
   -- where fewer are, a 12 is what strays
   within-strays : (x : Mode) → length ts < openLimit → ModeIn x c → act x b ts (taken c) m ≡ over (refused refusals.lost 0 0 l) → Strays b x ts c m
   within-strays x o w e =
-      twin-lost l (twin-act b ts c m x o (sits-first (taken c) m h) w) e (λ z. z) (λ d k q s r. around o q (pop-strays ts d k l (s .room) r))
+      twin-lost l (twin-act b ts c m x o (sits-first (taken c) m h) w) e (λ z. z) (λ d k q s r. frames o q (pop-strays ts d k l (s .room) r))
 
   -- and so in every mode
   act-strays : (x : Mode) → Fits x (length ts) → ModeIn x c → act x b ts (taken c) m ≡ over (refused refusals.lost 0 0 l) → Strays b x ts c m

@@ -38,7 +38,8 @@ use Rattle.format.specs.Step.{Mode, atMarker, atWord, atNumber, atFlag, atText,
 use Rattle.format.specs.Step.{go, entry, pop, onward, keyed, naming, had, textDone, reservedFor, stringSized, roomy, texting}
 use Rattle.format.specs.Step.{rawRow, filling, opened, bodySized, objectShaped, worded, numberDone, flagDone, rawGrown, begun, shown, onPart, act}
 use Rattle.format.specs.Together.{TraitIn, NameIn}
-use Rattle.format.specs.Strays.{Named-by, Strays}
+use Rattle.format.specs.Limits.{There, byText, byNumber, byNone}
+use Rattle.format.specs.Strays.{Strays}
 use Rattle.format.specs.Strays as out
 use Rattle.format.proofs.Tests.{clash}
 use Rattle.format.proofs.Used.{RowIn, SpanIn, UseIn, TextIn, WordIn, NumberIn, FlagIn, ModeIn, PartIn, Grows, span-up, text-up, word-up, number-up, flag-up}
@@ -343,17 +344,16 @@ module _ (b : ℕ) (ts : List Frame) (c : Cursor) (m : Memory) where
   still x = (((refl, refl), refl), (refl, refl))
 
   -- what is known where a trait's last name is there
-  makes : {x : Mode} {t : Trait} → Named-by b t c m x → Makes (watch x) t
-  makes n = record { made = λ r f. out.made n r f; madeName = λ r i u o l f. out.madeName n r i u o l f }
+  makes : {x : Mode} {row : ℕ} {t : Trait} → There c m b x (forName row t 0) → Makes (watch x) t
+  makes n = record { made = λ r f. out.newTrait n r f; madeName = λ r i u o l f. out.newTraitName n r i u o l f }
 
   -- by a word
-  makes-word : (u : Use) (left part : ℕ) → ((row : ℕ) (t : Trait) → u ≡ forName row t 0 → Named-by b t c m (atWord (textWord u) left part))
-      → UseStrays (watch (atWord (textWord u) left part)) u
+  makes-word : (u : Use) (left part : ℕ) → There c m b (atWord (textWord u) left part) u → UseStrays (watch (atWord (textWord u) left part)) u
   makes-word (forString row) left part f = tt
   makes-word (forKey p) left part f = tt
   makes-word (forClass row n y) left part f = tt
   makes-word forExternal left part f = tt
-  makes-word (forName row t more) left part f = λ e. makes (f row t (rw e))
+  makes-word (forName row t more) left part f = λ e. rw e (makes {row = row} (rw e at f))
   makes-word (forVector row n) left part f = tt
 
   -- by a text that is whole and valid
@@ -363,7 +363,7 @@ module _ (b : ℕ) (ts : List Frame) (c : Cursor) (m : Memory) where
   makes-text (tableText (forKey p)) s test e r = tt
   makes-text (tableText (forClass row n y)) s test e r = tt
   makes-text (tableText forExternal) s test e r = tt
-  makes-text (tableText (forName row t more)) s test e r = λ z. makes (rw z (out.text e r))
+  makes-text (tableText (forName row t more)) s test e r = λ z. makes {row = row} (rw z (byText e r))
   makes-text (tableText (forVector row n)) s test e r = tt
 
   module _ (left part n : ℕ) (e : partOf left part b ≡ Whole n) where
@@ -372,33 +372,33 @@ module _ (b : ℕ) (ts : List Frame) (c : Cursor) (m : Memory) where
         → Twin (watch (atWord (textWord u) left part)) ts (stringSized ts u z (taken c) m) (stringSized [] u z (taken c) m)
     unfolding stringSized
     twin-string u (Old i) q h l =
-        twin-on ts m (sure-old-text h i (λ o f. out.string e q o f)) (λ s d k a v ((sp, g), (o, r)).
-        twin-had ts u s d k a (g (still (atWord (textWord u) left part))) l (makes-word u left part (λ row t y. rw y (out.old e q o r))) sp)
+        twin-on ts m (sure-old-text h i (λ o f. out.stringEntry e q o f)) (λ s d k a v ((sp, g), (o, r)).
+        twin-had ts u s d k a (g (still (atWord (textWord u) left part))) l (makes-word u left part (byNumber e q o)) sp)
     twin-string u (New zero) q h l =
-        twin-had ts u noSpan (taken c) m h (still (atWord (textWord u) left part)) l (makes-word u left part (λ row t y. rw y (out.empty e q))) zero≤
+        twin-had ts u noSpan (taken c) m h (still (atWord (textWord u) left part)) l (makes-word u left part (byNone e q)) zero≤
     twin-string u (New (suc k)) q h l = twin-on ts m (sure-reserved h (suc k)) (λ s d k a v q. twin-use ts u s d k _ _ a l (λ x e j. waits))
 
     -- a size word is whole
     twin-body : (row : ℕ) (body : Body) (z : Size) → sizeOf n ≡ z → Sits (watch (atWord (sizeWord row body) left part)) (taken c) m → RowIn row c
         → Twin (watch (atWord (sizeWord row body) left part)) ts (bodySized ts row body z (taken c) m) (bodySized [] row body z (taken c) m)
     unfolding bodySized
-    twin-body row body (Old i) q h l = twin-ends ts m (sure-referred h row i l (λ o f. out.object e q o f))
+    twin-body row body (Old i) q h l = twin-ends ts m (sure-referred h row i l (λ o f. out.objectEntry e q o f))
     twin-body row body (New k) q h l = twin-on ts m (sure-entered h row l) (λ x d j a v q. twin-opened ts row body k d j a l)
 
     -- an object word is whole
     twin-object : (row : ℕ) (z : Shape) → shapeOf n ≡ z → Sits (watch (atWord (objectWord row) left part)) (taken c) m → RowIn row c
         → Twin (watch (atWord (objectWord row) left part)) ts (objectShaped ts row z (taken c) m) (objectShaped [] row z (taken c) m)
     unfolding objectShaped
-    twin-object row (Object i) q h l = twin-ends ts m (sure-referred h row i l (λ o f. out.object e q o f))
+    twin-object row (Object i) q h l = twin-ends ts m (sure-referred h row i l (λ o f. out.objectEntry e q o f))
     twin-object row (Known i) q h l =
         twin-on ts m (sure-entered h row l) (λ x d k a v (g, r).
         let (((names, traits), store), (loan, table)) = g (still (atWord (objectWord row) left part)) in
-        twin-on ts k (sure-old-trait a i (λ o f. out.trait e q r (rw traits at o) (λ y. f (rw table (trait-up v (traitAt (m .traits) i) y)))))
+        twin-on ts k (sure-old-trait a i (λ o f. out.traitEntry e q r (rw traits at o) (λ y. f (rw table (trait-up v (traitAt (m .traits) i) y)))))
         (λ t d′ k′ a′ v′ ((o, y), u).
         let same : t ≡ traitAt (m .traits) i = y ∙ ap (λ (U : List ℕ). traitAt U i) table in
         twin-on ts k′ (sure-object a′ row t l) (λ x d″ k″ a″ v″ q″.
         twin-members ts row t d″ k″ a″ l (λ p f.
-        out.traitName e q r (rw traits at o) (rw (same, store, names) at u) (rw same at p) (λ z. f (name-up a″ (t .first) (rw same z)))))))
+        out.entryName e q r (rw traits at o) (rw (same, store, names) at u) (rw same at p) (λ z. f (name-up a″ (t .first) (rw same z)))))))
     twin-object row External q h l = twin-on ts m (sure-entered h row l) (λ x d k a v q. waits)
     twin-object row (Inline k y) q h l = twin-on ts m (sure-entered h row l) (λ x d j a v q. waits)
 
