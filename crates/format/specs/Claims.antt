@@ -10,7 +10,7 @@ use lib.ListN.{length, replicate, take, getD}
 use Rattle.rows.specs.Memory.{memory, Memory, zeroed, fresh, messageLimit, openLimit, noKey, loanNames, messageMost, loanRows, colKind, colNumber, rowWidth}
 use Rattle.rows.specs.Memory.{spanWidth, traitWidth, loanStore, loanStrings, loanObjects, loanTraits, rowsMost, storeMost, loanOutput}
 use Rattle.rows.specs.declared.Cursor.{Cursor}
-use Rattle.rows.specs.Kinds.{kindDate}
+use Rattle.rows.specs.Kinds.{kindDate, kindString, kindXmlDocument, kindXml}
 use Rattle.wire.specs.Octets.{Bytes}
 use Rattle.format.specs.Reading.{Ended, reading, finished, refused, taken}
 use Rattle.format.specs.Step.{State, over, wait, none, Mode, atMarker}
@@ -200,6 +200,14 @@ pub data Feeds (p : ℕ) (piece : List ℕ) : Answer → Type 0 where
   awaits : {k : ℕ} → k ≡ length piece → Feeds p piece (Waiting k)
   completes : {rows bytes k : ℕ} → k ≤ length piece → Feeds p piece (Finished rows bytes k)
   rejects : {n told place k : ℕ} → k ≤ length piece → Refuses piece (p + k) n told place → Feeds p piece (Refused n told place k)
+
+-- ---- text
+
+-- the kinds that have a text
+pub data TextKind : ℕ → Type 0 where
+  aString : TextKind kindString
+  anXmlDocument : TextKind kindXmlDocument
+  anXml : TextKind kindXml
 
 -- ---- what is said of a reading's end
 

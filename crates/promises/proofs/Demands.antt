@@ -29,13 +29,13 @@ use Rattle.format.specs.Answers.{Fed, fed, answerOf, beginCall, feedCall, endCa
 use Rattle.format.specs.Standard.{Tables, Tree, noTables, value, standard, encode}
 use Rattle.format.specs.Unfold.{col, home, part, unfolded, rowsIn}
 use Rattle.format.specs.Holds.{canHold}
-use Rattle.format.specs.RowTest.{hasText, tested}
+use Rattle.format.specs.RowTest.{tested}
 use Rattle.format.specs.Writing.{written, unwritten, writing}
 use Rattle.wire.specs.Octets.{Bytes}
 use Rattle.format.specs.Claims.{joined, answerIn, takenIn, untaken, fedBy, fedPieces, tally, untook, endBy, endRead, unread, firstNumbers, refusedNumbers}
 use Rattle.format.specs.Claims.{lostNumbers, placeOf, lastByte, Named, BeginSays, FeedSays, EndSays, ReadSays, WriteRefuses, WriteSays, readAnswer, writeAnswer}
 use Rattle.format.specs.Claims.{Going, FeedLeaves, EndLeaves, Feeds, usedRows, Shallow, Returns, Held-just, Passes, Wide, Again, NoShorter, Roomy, widened, beyond}
-use Rattle.format.specs.Claims.{extra, used, RefusedWith}
+use Rattle.format.specs.Claims.{extra, used, RefusedWith, TextKind}
 use Rattle.format.specs.Byte.{Decided-by}
 use Rattle.format.specs.Limits.{Accord, Kept-to, ReadingEnds, asked, Enters}
 use Rattle.format.specs.Together.{Together, HoldsTogether}
@@ -243,7 +243,7 @@ pub write-refused : (R B out P : List ℕ) (n told place : ℕ) → writing R B 
 write-refused = ties.write-refused
 
 -- text gives the part of the store that a row, or the target of a reference, says. Refuses: a text that always gives the default
-pub text-there : (R B : List ℕ) (i : ℕ) (default : List ℕ) → rowsFault R B ≡ 0 → hasText (col R (home R i) colKind) ≡ true
+pub text-there : (R B : List ℕ) (i : ℕ) (default : List ℕ) → rowsFault R B ≡ 0 → TextKind (col R (home R i) colKind)
     → col R (home R i) colBodyBegin + col R (home R i) colBodySize ≤ length B
     → textCall R B i default ≡ part B (col R (home R i) colBodyBegin) (col R (home R i) colBodySize)
 text-there = ties.text-there
@@ -252,10 +252,10 @@ text-there = ties.text-there
 pub text-faulty : (R B : List ℕ) (i : ℕ) (default : List ℕ) → (rowsFault R B ≡ 0 → ⊥) → textCall R B i default ≡ default
 text-faulty = ties.text-faulty
 
-pub text-none : (R B : List ℕ) (i : ℕ) (default : List ℕ) → rowsFault R B ≡ 0 → hasText (col R (home R i) colKind) ≡ false → textCall R B i default ≡ default
+pub text-none : (R B : List ℕ) (i : ℕ) (default : List ℕ) → rowsFault R B ≡ 0 → (TextKind (col R (home R i) colKind) → ⊥) → textCall R B i default ≡ default
 text-none = ties.text-none
 
-pub text-past : (R B : List ℕ) (i : ℕ) (default : List ℕ) → rowsFault R B ≡ 0 → hasText (col R (home R i) colKind) ≡ true
+pub text-past : (R B : List ℕ) (i : ℕ) (default : List ℕ) → rowsFault R B ≡ 0 → TextKind (col R (home R i) colKind)
     → length B < col R (home R i) colBodyBegin + col R (home R i) colBodySize → textCall R B i default ≡ default
 text-past = ties.text-past
 

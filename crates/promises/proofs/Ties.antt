@@ -1,11 +1,12 @@
 -- What the calls are of: read of the reading, write of the writing, text of the row's part of the store; and a finished reading stays within the limit.
-use mathlib.Core.Path.{_≡_, ap, _∙_}
+use mathlib.Core.Path.{_≡_, refl, ap, _∙_}
 use mathlib.Core.Bool.{true, false}
 use mathlib.Core.List.{List}
 use Prim.Native.Nat.{ℕ, _+_, _*_, _/_, _%_, _≤_, _<_}
 use native.Mathlib.Omega.{arith}
 use borrow.Author.Tests.{le-leb, lt-leb, le-ltb, ne-eqb}
 use lib.ListN.{length}
+use lib.Dec.{eqb}
 use lib.Seq.{length-take-le}
 use Rattle.rows.specs.declared.Cursor.{Cursor}
 use Rattle.rows.specs.Memory.{Memory, loanFault, rowsFault, rowsMost, storeMost, rowWidth, messageLimit, colKind, colBodyBegin, colBodySize}
@@ -20,7 +21,8 @@ use Rattle.format.specs.RowTest.{hasText}
 use Rattle.format.specs.Text.{textSpan, textOr}
 use Rattle.format.specs.Writing.{written, unwritten, writing}
 use Rattle.format.specs.Numbers.{lentOf}
-use Rattle.format.specs.Claims.{usedRows}
+use Rattle.format.specs.Claims.{usedRows, TextKind, aString, anXmlDocument, anXml}
+use Rattle.rows.specs.Kinds.{kindString, kindXmlDocument, kindXml}
 use Rattle.format.specs.Together.{Counts}
 use Rattle.format.proofs.Tests.{clash}
 use Rattle.format.proofs.Kept.{Holds, holds-lent}
@@ -92,12 +94,26 @@ write-refused R B out P n told place e = ap writtenOf e
 
 -- ---- text
 
+-- the kinds that have one
+has-text : {kind : ℕ} → TextKind kind → hasText kind ≡ true
+has-text aString = refl
+has-text anXmlDocument = refl
+has-text anXml = refl
+
+-- a kind of which it isn't so
+other-kind : (kind k : ℕ) → (TextKind k) → (TextKind kind → ⊥) → eqb kind k ≡ false
+other-kind kind k h n = ne-eqb kind k (λ e. n (rw e h))
+
+-- and no other
+has-no-text : (kind : ℕ) → (TextKind kind → ⊥) → hasText kind ≡ false
+has-no-text kind n = rw (other-kind kind kindString aString n, other-kind kind kindXmlDocument anXmlDocument n, other-kind kind kindXml anXml n)
+
 module _ (R B : List ℕ) (i : ℕ) (default : List ℕ) where
   -- the part of the store that the row, or the target of a reference, says
-  pub text-there : rowsFault R B ≡ 0 → hasText (col R (home R i) colKind) ≡ true → col R (home R i) colBodyBegin + col R (home R i) colBodySize ≤ length B
+  pub text-there : rowsFault R B ≡ 0 → TextKind (col R (home R i) colKind) → col R (home R i) colBodyBegin + col R (home R i) colBodySize ≤ length B
       → textCall R B i default ≡ part B (col R (home R i) colBodyBegin) (col R (home R i) colBodySize)
   unfolding textOr textSpan
-  text-there f k l = rw (f, k, le-leb (col R (home R i) colBodyBegin + col R (home R i) colBodySize) (length B) l)
+  text-there f k l = rw (f, has-text k, le-leb (col R (home R i) colBodyBegin + col R (home R i) colBodySize) (length B) l)
 
   -- the default, where a loan is faulty
   pub text-faulty : (rowsFault R B ≡ 0 → ⊥) → textCall R B i default ≡ default
@@ -105,12 +121,12 @@ module _ (R B : List ℕ) (i : ℕ) (default : List ℕ) where
   text-faulty n = rw (ne-eqb (rowsFault R B) 0 n)
 
   -- where the row has no text
-  pub text-none : rowsFault R B ≡ 0 → hasText (col R (home R i) colKind) ≡ false → textCall R B i default ≡ default
+  pub text-none : rowsFault R B ≡ 0 → (TextKind (col R (home R i) colKind) → ⊥) → textCall R B i default ≡ default
   unfolding textOr textSpan
-  text-none f k = rw (f, k)
+  text-none f k = rw (f, has-no-text (col R (home R i) colKind) k)
 
   -- and where its span is past the store
-  pub text-past : rowsFault R B ≡ 0 → hasText (col R (home R i) colKind) ≡ true → length B < col R (home R i) colBodyBegin + col R (home R i) colBodySize
+  pub text-past : rowsFault R B ≡ 0 → TextKind (col R (home R i) colKind) → length B < col R (home R i) colBodyBegin + col R (home R i) colBodySize
       → textCall R B i default ≡ default
   unfolding textOr textSpan
-  text-past f k l = rw (f, k, lt-leb (col R (home R i) colBodyBegin + col R (home R i) colBodySize) (length B) l)
+  text-past f k l = rw (f, has-text k, lt-leb (col R (home R i) colBodyBegin + col R (home R i) colBodySize) (length B) l)
