@@ -19,4 +19,5 @@ pub mod Claims
 pub mod Limits
 pub mod Together
 pub mod Strays
+pub mod Meant
 pub mod Endings

@@ -38,9 +38,10 @@ use Rattle.format.specs.Claims.{Going, FeedLeaves, EndLeaves, Feeds, usedRows, 
 use Rattle.format.specs.Claims.{extra, used, RefusedWith, TextKind}
 use Rattle.format.specs.Byte.{Decided-by}
 use Rattle.format.specs.Limits.{Accord, Kept-to, ReadingEnds, asked, Enters}
+use Rattle.format.specs.Meant.{StateMeant}
 use Rattle.format.specs.Together.{Together, HoldsTogether}
 use Rattle.format.specs.Strays.{Strays}
-use Rattle.format.specs.Endings.{Outcome, Accepted, depth}
+use Rattle.format.specs.Endings.{TestSays, Outcome, Accepted, depth}
 use Rattle.format.proofs.Feeding as feeding
 use Rattle.format.proofs.Cuts as cuts
 use Rattle.format.proofs.Pieces as pieces
@@ -58,6 +59,7 @@ use Rattle.format.proofs.Exactly as exactly
 use Rattle.format.proofs.Trip as trip
 use Rattle.promises.proofs.Decides as decides
 use Rattle.promises.proofs.Answered as answered
+use Rattle.promises.proofs.Meant as meant
 use Rattle.promises.proofs.Together as together
 use Rattle.promises.proofs.Strays as strays
 use Rattle.promises.proofs.Holding as holding
@@ -65,6 +67,7 @@ use Rattle.promises.proofs.Order as order
 use Rattle.promises.proofs.Ranges as ranges
 use Rattle.promises.proofs.Ample as ample
 use Rattle.promises.proofs.Ties as ties
+use Rattle.promises.proofs.Least as least
 use Rattle.promises.proofs.Roomy as roomy
 use Rattle.promises.proofs.Trips as trips
 
@@ -104,6 +107,10 @@ refusal-named = ranges.sayable-named
 -- and so is each of write
 pub write-refusal-named : {rows out n told place : ℕ} → WriteRefuses rows out n told place → Named n told place
 write-refusal-named = ranges.write-named
+
+-- what the numbers of a state are: by its status, its mode and purpose, and its frames, as the tables of codes say. Refuses: an unknown mode taken for a marker
+pub numbers-mean : (state : Numbers) (m : Memory) → StateMeant state m (stateOf state m)
+numbers-mean = meant.numbers-mean
 
 -- a state never begun says 12, to no bytes too. Refuses: a state never begun that answers waiting to an empty piece
 pub unbegun-says : (state : Numbers) (m : Memory) → stateOf state m ≡ none m → feedCall state m [] ≡ fed (Refused no.lost 0 0 0) state m
@@ -327,6 +334,10 @@ accepts-writing = writes.accepts
 pub only-reported : (R B out P : List ℕ) (n : ℕ) → Accepted R B out n P
     → (take n P ≡ encode (unfolded R B 0)) × (drop n P ≡ drop n out) × (length P ≡ length out)
 only-reported = writes.reported
+
+-- the rows pass where there are some and each passes 13 and 14; else the first that doesn't is told, 13 before 14. Refuses: 13 that always tells row 0
+pub test-says : (R B : List ℕ) → TestSays R B (tested R B)
+test-says = least.test-says
 
 -- each way that a writing ends, and where 9 and 10 fall
 pub writing-ends : (R B out : List ℕ) → Outcome R B out (writing R B out)
