@@ -17,7 +17,7 @@ use Rattle.format.specs.declared.Frame.{Frame}
 use Rattle.format.specs.Step.{assoc, dynamics, Use, forString, forKey, forClass, forExternal, forName, forVector, xmlText, tableText}
 use Rattle.format.specs.Step.{Word, integerWord, objectWord, sizeWord, textWord, Number, doubleBits, dateBits, rawFlag, objectsFlag, dictionaryFlag}
 use Rattle.format.specs.Step.{Mode, atMarker, atWord, atNumber, atFlag, atText, atRaw, astray, State, wait, over, none, step, run, begin}
-use Rattle.format.specs.Numbers.{countsFit, useFits, wordFits, numberRow, modeFits, pairsUsed, pairsFit, depthFits, finishable}
+use Rattle.format.specs.Numbers.{countsFit, useFits, wordFits, numberRow, modeFits, pairsUsed, pairsFit, depthFits, finishable, framesSize}
 use Rattle.format.specs.Numbers.{Numbers, lentOf, sameLent, sound, soundStep, Held, held, stateOf, numbersOf, memoryOf, afterStep, stepped, byteStep}
 use Rattle.format.specs.Answers.{blank, runHeld, costFrom, stateIn, takenBy}
 use Rattle.format.proofs.Tests.{on-bool, both, clash}
@@ -266,7 +266,8 @@ taken-run s h (b ∷ bs) o k =
 
 -- the numbers that the first call leaves show the beginning
 pub shows-begin : (m : Memory) → Shows (lentOf m) 0 (begin m) (afterStep (blank (lentOf m)) (begin m))
-shows-begin m = shows-after (blank (lentOf m)) (begin m) (good-begin m) (stacked-begin m) refl (length-replicate (openLimit * 6) 0)
+unfolding openLimit
+shows-begin m = shows-after (blank (lentOf m)) (begin m) (good-begin m) (stacked-begin m) refl (length-replicate {A = ℕ} framesSize 0)
 
 -- ---- the laws along a run from the beginning
 

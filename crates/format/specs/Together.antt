@@ -6,7 +6,7 @@ use lib.ListN.{length, getD}
 use Rattle.rows.specs.declared.Cursor.{Cursor}
 use Rattle.rows.specs.declared.Span.{Span}
 use Rattle.rows.specs.declared.Key.{Key}
-use Rattle.rows.specs.Memory.{rowWidth, spanWidth, traitWidth, span, Memory, faultOf, messageLimit, openLimit, colEnd, cell, spanAt}
+use Rattle.rows.specs.Memory.{rowWidth, spanWidth, traitWidth, span, Memory, faultOf, messageLimit, openLimit, colEnd, col, spanAt}
 use Rattle.rows.specs.declared.Trait.{Trait}
 use Rattle.wire.specs.U29.{wordMore, wordBits}
 use Rattle.wire.specs.Big.{numberMore, numberBits}
@@ -160,7 +160,7 @@ TraitsFit c m = (i : ℕ) → i < c .traits → TraitIn (traitAt (m .traits) i) 
 -- what the used entries of the tables hold: strings and names spans of the used store, objects used rows that end in the used rows, traits what is used
 pub record EntriesFit (c : Cursor) (m : Memory) : Type 0 where
   pub strings : (i : ℕ) → i < c .strings → SpanIn (spanAt (m .strings) i) c
-  pub objects : (i : ℕ) → i < c .objects → RowIn (getD (m .objects) i 0) c × (cell (m .rows) (getD (m .objects) i 0) colEnd ≤ c .rows)
+  pub objects : (i : ℕ) → i < c .objects → RowIn (getD (m .objects) i 0) c × (col (m .rows) (getD (m .objects) i 0) colEnd ≤ c .rows)
   pub traits : TraitsFit c m
   pub names : (i : ℕ) → i < c .names → SpanIn (spanAt (m .names) i) c
 
