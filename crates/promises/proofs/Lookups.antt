@@ -16,7 +16,7 @@ use Rattle.rows.specs.declared.Span.{Span}
 use Rattle.rows.specs.declared.Key.{Key}
 use Rattle.rows.specs.declared.Trait.{Trait}
 use Rattle.rows.specs.Memory.{fresh, zeroed, faultOf, noKey}
-use Rattle.rows.specs.Memory.{Memory, memory, rowWidth, spanWidth, traitWidth, openLimit, colCount, colCount2, colEnd, cell, rowUsed, noSpan, spanAt}
+use Rattle.rows.specs.Memory.{Memory, memory, rowWidth, spanWidth, traitWidth, openLimit, colCount, colCount2, colEnd, col, rowUsed, noSpan, spanAt}
 use Rattle.wire.specs.declared.Date.{Date}
 use Rattle.wire.specs.declared.Date.the-variants.{Millis, Refused as Undated}
 use Rattle.wire.specs.Date.{dateOf}
@@ -289,8 +289,8 @@ module _ {c : Cursor} {m : Memory} (h : Sits c m) where
       let (u, v) = z .objects i f in
       let r = getD (m .objects) i 0 in
       sure-no (not (rowUsed (m .rows) c r)) (rw (used-row r u))
-      (sure-no (ltb (c .rows) (cell (m .rows) r colEnd)) (le-ltb (c .rows) (cell (m .rows) r colEnd) v)
-      (sure-cond (eqb (cell (m .rows) r colEnd) 0) (stops tt) (sure-yes (rowUsed (m .rows) c row) (used-row row l) (changed (simp length-set)))))))
+      (sure-no (ltb (c .rows) (col (m .rows) r colEnd)) (le-ltb (c .rows) (col (m .rows) r colEnd) v)
+      (sure-cond (eqb (col (m .rows) r colEnd) 0) (stops tt) (sure-yes (rowUsed (m .rows) c row) (used-row row l) (changed (simp length-set)))))))
 
   -- a marker adds a row
   sure-marker : (k : Key) (left b : ℕ) → Sure (toRows m) Any c (marker k left b (m .rows) c)
