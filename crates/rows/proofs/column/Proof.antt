@@ -1,12 +1,10 @@
 -- Made by proofs.py from answers/column.txt: change that file, not this one.
--- answers 1bc5a58a40e0 proof 1452f1c4a7c7
-use native.Mathlib.Omega.{arith}
+-- answers 4fffad6e9007 proof 04d9fd32a711
 use mathlib.Core.Path.{sym}
-use Prim.Native.Nat.{_+_, _*_}
 use denote.Ref.{now}
 use borrow.Author.Tests.{lt-ltb, le-ltb}
-use lib.ListN.{List·getD-eq-default}
-use Rattle.rows.specs.Memory.{rowWidth, col}
+use Rattle.rows.specs.Memory.{col}
+use Rattle.rows.proofs.RowColumns.{col-past}
 use borrow.Author.Needs.{needs}
 use Rattle.rows.proofs.column.Statement.{statement}
 use Rattle.rows.proofs.column.Tie as tie
@@ -33,10 +31,8 @@ unfolding col
 returns c = sym (simp (lt-ltb _ _ (c .before .before .if1 .taken)))
 
 returns-2 : tie.Need-returns-2
-unfolding col
-returns-2 c =
-    sym (simp (lt-ltb _ _ (c .before .if1 .taken), List·getD-eq-default (now (c .before .before .args .rows)) 0 {n = c .before .before .args .row *
-      rowWidth + c .before .before .args .c} (omega (arith, c .if2 .left))))
+returns-2 c = col-past (now (c .before .before .args .rows)) (c .before .before .args .row) (c .before .before .args .c) (c .before .if1 .taken)
+    (c .if2 .left)
 
 returns-3 : tie.Need-returns-3
 unfolding col
