@@ -5,8 +5,7 @@ use Prim.Native.Nat.{ℕ, suc, _+_, _*_, _-_, _<_, _≤_}
 use native.Mathlib.Omega.{arith}
 use borrow.Author.Tests.{lt-ltb}
 use lib.ListN.{length, set, List·getD-eq-default}
-use lib.Seq.{sets}
-use Rattle.rows.specs.Memory.{rowWidth, rowNumbers, rowsIn, col, putRow}
+use Rattle.rows.specs.Memory.{rowWidth, rowsIn, col, putRow}
 use Rattle.rows.specs.declared.Row.{Row}
 
 pub row-stored : (R : List ℕ) (row : ℕ) (v : Row) → row < rowsIn R

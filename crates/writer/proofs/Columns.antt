@@ -1,4 +1,4 @@
--- Columns of rows and parts of the store, by the names of the definitions.
+-- Keys, bodies and classes of rows by what was read of them, and the rows that follow.
 use mathlib.Core.Path.{_≡_, _∙_}
 use mathlib.Core.List.{List}
 use Prim.Native.Nat.{ℕ, zero, suc, _-_, _<_, _≤_}
