@@ -658,7 +658,7 @@ pub fn referred(rows: &mut [usize], objects: &[usize], c: Cursor, row: usize, i:
     if !rows::row_used(rows.len(), c.rows, object) {
         return Done::Refused(lost());
     }
-    let end = rows[object * ROW_WIDTH + columns::END];
+    let end = rows::end_at(rows, object);
     if c.rows < end {
         return Done::Refused(lost());
     }

@@ -7,7 +7,7 @@ use lib.Dec.{eqb}
 use lib.ListN.{replicate}
 use borrow.Author.Tests.{eq-eqb, ne-eqb}
 use Rattle.rows.specs.declared.Cursor.{Cursor}
-use Rattle.rows.specs.Memory.{Memory, fresh, zeroed, faultOf, openLimit, noSpan}
+use Rattle.rows.specs.Memory.{Memory, fresh, zeroed, faultOf, noSpan}
 use Rattle.format.specs.declared.Answer.{Answer}
 use Rattle.format.specs.declared.Answer.the-variants as answer
 use Rattle.format.specs.declared.Head.{Head}
@@ -101,7 +101,7 @@ module _ (h : Head) (F : List ℕ) (m : Memory) where
 module _ (m : Memory) (loan : ℕ) (f : loan ≡ faultOf m) (h : Head) where
   -- a wrong loan leaves all of them as they are
   pub begin-refuses : (loan ≡ 0 → ⊥) → h ≡ headOf (lentOf m) (Refused (refusalOf refusals.badLoan loan 0)) → answered (held (numbers h (replicate framesSize 0)) m) 0 ≡ beginCall m
-  unfolding beginCall step.begin afterStep numbersOf openLimit
+  unfolding beginCall step.begin afterStep numbersOf
   begin-refuses n p = rw p (by (faultOf m) loan f n)
     where
       by : (k loan : ℕ) → loan ≡ k → (loan ≡ 0 → ⊥)
@@ -112,7 +112,7 @@ module _ (m : Memory) (loan : ℕ) (f : loan ≡ faultOf m) (h : Head) where
 
   pub begin-waits : (w : Work) (c : Cursor) (m′ : Memory) → loan ≡ 0 → w ≡ work 1 0 0 0 0 noSpan noTrait 0 0 → c ≡ fresh → h ≡ headOf (lentOf m) (Wait w c 0) → m′ ≡ zeroed m
       → answered (held (numbers h (replicate framesSize 0)) m′) 0 ≡ beginCall m
-  unfolding beginCall step.begin afterStep numbersOf openLimit workOf laid
+  unfolding beginCall step.begin afterStep numbersOf workOf laid
   begin-waits w c m′ z p q r s = rw (s, r, q, p, sym f ∙ z)
 
 -- ---- a piece

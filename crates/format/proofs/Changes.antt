@@ -10,12 +10,12 @@ use lib.ListN.{length, getD, set, length-set, length-append, List·getD-append}
 use lib.Seq.{getD-set-same, getD-set-other, sets, length-sets, getD-append-seam}
 use Rattle.rows.specs.declared.Cursor.{Cursor}
 use Rattle.rows.specs.declared.Trait.{Trait}
-use Rattle.rows.specs.Memory.{Memory, messageLimit, cell, put, colEnd}
+use Rattle.rows.specs.Memory.{Memory, messageLimit, put, colEnd}
 use Rattle.format.specs.Decide.{rowsTo, storeTo, stringsTo, objectsTo, traitsTo, namesTo, traitAt}
 use Rattle.format.specs.Standard.{Tree, Traits, Tables}
 use Rattle.format.proofs.Lists.{Kept, kept-set, kept-sets, sets-at, last-or}
 use Rattle.format.proofs.Memories.{atTo, withRows, withStore, withStrings, withObjects, withTraits, withNames, numbers}
-use Rattle.format.proofs.Ground.{land, Ext, ext-kept, ext-put, ext-same, landTo}
+use Rattle.format.proofs.Ground.{spot, land, Ext, ext-kept, ext-put, ext-same, landTo}
 use Rattle.format.proofs.Rep.{Text, Own, own-ext}
 use Rattle.format.proofs.Tables.{TraitRep, noTraits, Entry, Sim, sim-grow}
 use Rattle.rows.specs.Memory.{rowWidth}
@@ -76,7 +76,7 @@ module _ {u : ℕ} {m : Memory} {c : Cursor} {s : Tables} (x : Sim u m c s) wher
       (ext-store (m .store) v h (omega arith) (λ i l. refl)) (λ r l e. e)
 
   -- a column of an open row
-  module _ (r j v : ℕ) (o : cell (m .rows) r colEnd ≡ 0) (w : j < rowWidth) where
+  module _ (r j v : ℕ) (o : spot (m .rows) r colEnd ≡ 0) (w : j < rowWidth) where
     pub sim-put : j < colEnd → Sim u (withRows m (put (m .rows) r j v)) c s
     sim-put h =
         sim-grow x (put (m .rows) r j v) (m .store) (m .names) (c .at) (c .rows) (c .store) (c .names) u (x .limit) (rw length-set (x .rowsIn))
@@ -211,7 +211,7 @@ module _ {u : ℕ} {m : Memory} {c : Cursor} {s : Tables} (x : Sim u m c s) wher
           rw (rw e at (at 0 (omega arith)), at 1 (omega arith), at 2 (omega arith), at 3 (omega arith), at 4 (omega arith)) r
 
   -- an open row enters the objects
-  pub sim-object : (r : ℕ) → c .objects < length (m .objects) → r < c .rows → cell (m .rows) r colEnd ≡ 0
+  pub sim-object : (r : ℕ) → c .objects < length (m .objects) → r < c .rows → spot (m .rows) r colEnd ≡ 0
       → ((i : ℕ) → i < c .objects → getD (m .objects) i 0 < r)
       → Sim u (withObjects m (set (m .objects) (c .objects) r)) (objectsTo c (c .objects + 1)) (addObject s)
   sim-object r h l o below =
@@ -249,7 +249,7 @@ module _ {u : ℕ} {m : Memory} {c : Cursor} {s : Tables} (x : Sim u m c s) wher
       ]
 
   -- row r ends; it is object i, or no object
-  pub sim-close : (r i : ℕ) (t : Tree) → cell (m .rows) r colEnd ≡ 0 → ((j : ℕ) → j < c .objects → j ≢ i → getD (m .objects) j 0 ≢ r)
+  pub sim-close : (r i : ℕ) (t : Tree) → spot (m .rows) r colEnd ≡ 0 → ((j : ℕ) → j < c .objects → j ≢ i → getD (m .objects) j 0 ≢ r)
       → (i < c .objects → (getD (m .objects) i 0 ≡ r) × Own t (land (put (m .rows) r colEnd (c .rows)) (c .rows) (m .store) u) r)
       → Sim u (withRows m (put (m .rows) r colEnd (c .rows))) c (setObject i t s)
   sim-close r i t o others mine =

@@ -12,7 +12,7 @@ use lib.ListN.{length, getD, set}
 use lib.Seq.{sets, set-out}
 use Rattle.rows.specs.declared.Cursor.{Cursor}
 use Rattle.rows.specs.declared.Key.{Key}
-use Rattle.rows.specs.Memory.{Memory, messageLimit, cell, put, colEnd, rowUsed}
+use Rattle.rows.specs.Memory.{Memory, messageLimit, col, put, colEnd, rowUsed}
 use Rattle.format.specs.Decide.{Body, stop, give, lift, rowsTo, objectsTo, onRows, onObjects, closed, entered, referred}
 use Rattle.format.specs.Reading as our
 use Rattle.format.specs.Reading.{Values, ResultOf, ok, bind, Reader, decided, taken}
@@ -21,7 +21,7 @@ use Rattle.format.specs.Standard.{Tables, Tree, Std}
 use Rattle.format.proofs.Tests.{clash}
 use Rattle.format.proofs.Lists.{kept-sets, sets-at}
 use Rattle.format.proofs.Memories.{withRows, withObjects}
-use Rattle.format.proofs.Ground.{Land, at, ext-trans, ext-put, landOf, landTo}
+use Rattle.format.proofs.Ground.{spot, col-lent, Land, at, ext-trans, ext-put, landOf, landTo}
 use Rattle.format.proofs.Alike.{Left, Agree, fine, both}
 use Rattle.format.proofs.Rep.{goal, face, Is, Own, before, own-head, own-rep, own-ext, Kids}
 use Rattle.format.proofs.Tables.{Entry, Sim}
@@ -92,7 +92,7 @@ module _ {m : Memory} {c : Cursor} {s : Tables} (x : Sim (c .store) m c s) (l : 
         atUp = omega arith;
       }
 
-  row-at : (cs : List ℕ) → length cs ≡ rowWidth → (j : ℕ) → j < rowWidth → cell (sets (m .rows) (c .rows * rowWidth) cs) (c .rows) j ≡ getD cs j 0
+  row-at : (cs : List ℕ) → length cs ≡ rowWidth → (j : ℕ) → j < rowWidth → spot (sets (m .rows) (c .rows * rowWidth) cs) (c .rows) j ≡ getD cs j 0
   row-at cs e j h = sets-at cs (m .rows) (c .rows * rowWidth) j (omega arith) (omega arith)
 
   pub begins : (cs : List ℕ) → length cs ≡ rowWidth → getD cs colEnd 0 ≡ 0 → Stage false m c cs (c .store) (rowed m c cs) (rowedTo c) s
@@ -163,7 +163,7 @@ module _ {whole : List ℕ} {A B : Type 0} {Q : A → Memory → Cursor → B �
 
 -- a reference: its row names the row of an object that ended before it
 module _ {m₀ : Memory} {c₀ : Cursor} {b : ℕ} {k : Key} {m : Memory} {c : Cursor} {s : Tables} (x : Stage false m₀ c₀ (opening b k) (c .store) m c s) where
-  ended-before : (i : ℕ) → i < c .objects → cell (m .rows) (getD (m .objects) i 0) colEnd ≤ c₀ .rows
+  ended-before : (i : ℕ) → i < c .objects → spot (m .rows) (getD (m .objects) i 0) colEnd ≤ c₀ .rows
   ended-before i h =
       let a = x .slot in
       let o = x .keep .objects i (omega arith) in
@@ -208,26 +208,29 @@ module _ {m₀ : Memory} {c₀ : Cursor} {b : ℕ} {k : Key} {m : Memory} {c : C
       used : (g : ℕ) → g < c .rows → rowUsed (m .rows) c g ≡ true
       used g h = let d = x .sim .rowsIn in rw (lt-ltb g (c .rows) h, le-leb (c .rows) (length (m .rows) / rowWidth) (omega arith))
 
+      lent : (g : ℕ) → g < c .rows → col (m .rows) g colEnd ≡ spot (m .rows) g colEnd
+      lent g h = let d = x .sim .rowsIn in col-lent (m .rows) g colEnd (omega arith)
+
       entry : i < c .objects → (o : Option Tree) → Entry (landOf m c) (getD (m .objects) i 0) o
           → Agree whole (Val m₀ c₀ k) (decided (lift (λ R. withRows m R)
           (cond (not (rowUsed (m .rows) c (getD (m .objects) i 0))) (stop refusals.lost 0 0)
-          (cond (ltb (c .rows) (cell (m .rows) (getD (m .objects) i 0) colEnd)) (stop refusals.lost 0 0)
-          (cond (eqb (cell (m .rows) (getD (m .objects) i 0) colEnd) 0) (stop 5 i (c .at))
+          (cond (ltb (c .rows) (col (m .rows) (getD (m .objects) i 0) colEnd)) (stop refusals.lost 0 0)
+          (cond (eqb (col (m .rows) (getD (m .objects) i 0) colEnd) 0) (stop 5 i (c .at))
           (cond (rowUsed (m .rows) c (c₀ .rows)) (give tt
           (put (put (put (m .rows) (c₀ .rows) 0 18) (c₀ .rows) 8 (getD (m .objects) i 0)) (c₀ .rows) colEnd (c .rows)) c) (stop refusals.lost 0 0)))))) m bs)
           (std.finishedObject i o s (c .at) bs)
       entry h none z =
-          rw (used (getD (m .objects) i 0) (z .0), z .1, le-ltb (c .rows) 0 (omega arith)) (both (lit≤ tt) (lit≤ tt))
+          rw (used (getD (m .objects) i 0) (z .0), lent (getD (m .objects) i 0) (z .0), z .1, le-ltb (c .rows) 0 (omega arith)) (both (lit≤ tt) (lit≤ tt))
       entry h (some t) z =
           let d = own-head t (landOf m c) (getD (m .objects) i 0) z in
           let p = d .0 in
           let q = d .1 in
-          let v : cell (m .rows) (getD (m .objects) i 0) colEnd ≡ 0 → ⊥ = λ e. omega arith in
+          let v : spot (m .rows) (getD (m .objects) i 0) colEnd ≡ 0 → ⊥ = λ e. omega arith in
           rw (
             used (getD (m .objects) i 0) (omega arith),
-            le-ltb (c .rows) (cell (m .rows) (getD (m .objects) i 0) colEnd) q,
-            ne-eqb
-                (cell (m .rows) (getD (m .objects) i 0) colEnd) 0 v,
+            lent (getD (m .objects) i 0) (omega arith),
+            le-ltb (c .rows) (spot (m .rows) (getD (m .objects) i 0) colEnd) q,
+            ne-eqb (spot (m .rows) (getD (m .objects) i 0) colEnd) 0 v,
             stage-used x,
           )
           (fine r (refer-val i t l h z))

@@ -152,7 +152,7 @@ wanted (example bytes w) = outcome (a.read (answer w (λ n. n)) (loans w)) (drib
 
 pub proved : map becomes examples ≡ map wanted examples
 unfolding u.partOf u.groups u.moreOf u.u29 w.sizeOf w.shapeOf z.integerOf z.columnOf z.ofColumn n.numberOf n.bytesOf n.digitOf y.finite y.refusedDate y.dateOf o.tells o.sayable
-    x.stepOf x.foldOf g.follow g.validText m.messageLimit m.openLimit m.loanFault m.zeroed m.putRow m.columnAt d.kindOf d.newRow d.marker d.closed d.numbered
+    x.stepOf x.foldOf g.follow g.validText m.messageLimit m.openLimit m.loanFault m.zeroed m.putRow m.col d.kindOf d.newRow d.marker d.closed d.numbered
     d.integerEnd d.dateEnd d.bodied d.classed d.objectClass d.vectorClass d.flagged d.counted d.keyEnd d.grown d.oldText d.reserved d.stored d.judged d.textEnd d.entered
     d.referred d.traitHolds d.oldTrait d.named d.traitEnd d.sealedKey d.starred r.byte r.u29 r.number r.chars r.fill r.textOf r.text r.entries r.pair r.pairsBy r.pairs r.couple
     r.names r.dynamics r.members r.inlined r.objectOf r.room r.charsOf r.filled r.newOf r.sizedOf r.marked r.value r.ended r.reading s.taskOf s.frameOf s.go
@@ -161,7 +161,7 @@ unfolding u.partOf u.groups u.moreOf u.u29 w.sizeOf w.shapeOf z.integerOf z.colu
     k.numbersOf k.lentOf k.sameLent k.countsFit k.useFits k.wordFits k.modeFits k.sound k.soundStep k.afterStep k.byteStep t.byte t.bytes t.word t.chars t.keptText t.sizeSays t.objectSays t.follows t.textOf
     t.text t.opened t.shut t.finishedObject t.objectAt t.names t.newTraits t.classGiven t.starred t.trees t.sealed t.pairsFrom t.pairs t.dynamics t.entries t.members
     t.objectOf t.newOf t.sizedOf t.marked t.value t.standard t.count t.countPairs t.countEntries t.nameBytes t.traitWord t.encodePlain t.arrayHead t.objectHead
-    t.vectorHead t.dictionaryHead t.encode t.encodeTrees t.encodePairs t.encodeValues t.encodeDynamic t.encodeEntries v.col v.part v.home v.after v.treesAt
+    t.vectorHead t.dictionaryHead t.encode t.encodeTrees t.encodePairs t.encodeValues t.encodeDynamic t.encodeEntries v.part v.home v.after v.treesAt
     v.pairsAt v.entriesAt v.node v.treeAt v.unfolded f.spanFits f.markFits f.columnsFit f.signedFits f.valueFits f.children f.closes f.gives f.parentIn f.numberIn f.given
     f.wellFormed f.numberWritable f.bodyWritable f.keyWritable f.writable f.testFrom f.tested e._then_ e.these e.streamBytes e.isDeep e.emitTrees e.emitPairs
     e.emitValues e.emitDynamic e.emitEntries e.emitIn e.emit e.settle e.writing a.beginCall a.runHeld a.takenBy a.feedCall a.endCall a.readCall a.writeCall
@@ -202,7 +202,7 @@ pub others :
     × (a.writeCall (joined (row 9 keyless 0 0 0 0 2 3 ∷ row 6 keyless 0 1 0 0 0 2 ∷ row 6 keyless 0 1 0 0 0 3 ∷ [])) (0x61 ∷ []) (replicate 12 7)
     ≡ a.output (Bytes 9) (0x09 ∷ 0x05 ∷ 0x01 ∷ 0x06 ∷ 0x03 ∷ 0x61 ∷ 0x06 ∷ 0x03 ∷ 0x61 ∷ 7 ∷ 7 ∷ 7 ∷ []))
 unfolding u.partOf u.groups u.moreOf u.u29 w.sizeOf w.shapeOf z.integerOf z.columnOf z.ofColumn n.numberOf n.bytesOf n.digitOf y.finite y.refusedDate y.dateOf o.tells o.sayable
-    x.stepOf x.foldOf g.follow g.validText m.messageLimit m.openLimit m.loanFault m.zeroed m.putRow m.columnAt d.kindOf d.newRow d.marker d.closed d.numbered
+    x.stepOf x.foldOf g.follow g.validText m.messageLimit m.openLimit m.loanFault m.zeroed m.putRow m.col d.kindOf d.newRow d.marker d.closed d.numbered
     d.integerEnd d.dateEnd d.bodied d.classed d.objectClass d.vectorClass d.flagged d.counted d.keyEnd d.grown d.oldText d.reserved d.stored d.judged d.textEnd d.entered
     d.referred d.traitHolds d.oldTrait d.named d.traitEnd d.sealedKey d.starred r.byte r.u29 r.number r.chars r.fill r.textOf r.text r.entries r.pair r.pairsBy r.pairs r.couple
     r.names r.dynamics r.members r.inlined r.objectOf r.room r.charsOf r.filled r.newOf r.sizedOf r.marked r.value r.ended r.reading s.taskOf s.frameOf s.go
@@ -211,7 +211,7 @@ unfolding u.partOf u.groups u.moreOf u.u29 w.sizeOf w.shapeOf z.integerOf z.colu
     k.numbersOf k.lentOf k.sameLent k.countsFit k.useFits k.wordFits k.modeFits k.sound k.soundStep k.afterStep k.byteStep t.byte t.bytes t.word t.chars t.keptText t.sizeSays t.objectSays t.follows t.textOf
     t.text t.opened t.shut t.finishedObject t.objectAt t.names t.newTraits t.classGiven t.starred t.trees t.sealed t.pairsFrom t.pairs t.dynamics t.entries t.members
     t.objectOf t.newOf t.sizedOf t.marked t.value t.standard t.count t.countPairs t.countEntries t.nameBytes t.traitWord t.encodePlain t.arrayHead t.objectHead
-    t.vectorHead t.dictionaryHead t.encode t.encodeTrees t.encodePairs t.encodeValues t.encodeDynamic t.encodeEntries v.col v.part v.home v.after v.treesAt
+    t.vectorHead t.dictionaryHead t.encode t.encodeTrees t.encodePairs t.encodeValues t.encodeDynamic t.encodeEntries v.part v.home v.after v.treesAt
     v.pairsAt v.entriesAt v.node v.treeAt v.unfolded f.spanFits f.markFits f.columnsFit f.signedFits f.valueFits f.children f.closes f.gives f.parentIn f.numberIn f.given
     f.wellFormed f.numberWritable f.bodyWritable f.keyWritable f.writable f.testFrom f.tested e._then_ e.these e.streamBytes e.isDeep e.emitTrees e.emitPairs
     e.emitValues e.emitDynamic e.emitEntries e.emitIn e.emit e.settle e.writing a.beginCall a.runHeld a.takenBy a.feedCall a.endCall a.readCall a.writeCall

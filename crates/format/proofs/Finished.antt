@@ -7,11 +7,10 @@ use native.Mathlib.Omega.{arith}
 use lib.ListN.{length, take}
 use lib.Seq.{length-take-le, getD-take}
 use Rattle.rows.specs.declared.Cursor.{Cursor}
-use Rattle.rows.specs.Memory.{Memory, zeroed, fresh, faultOf, openLimit, noKey, colKind, colNumber}
+use Rattle.rows.specs.Memory.{Memory, zeroed, fresh, faultOf, openLimit, noKey, colKind, colNumber, rowsIn, col}
 use Rattle.rows.specs.Kinds.{kindDate}
 use Rattle.format.specs.Reading.{Result, Ended, finished, ended, unlessFault, value, reading}
 use Rattle.format.specs.Step.{over, run, end, begin}
-use Rattle.format.specs.Unfold.{rowsIn, col}
 use Rattle.format.specs.RowTest.{wellFormed, fine, tested, keyless}
 use Rattle.format.proofs.Tests.{clash}
 use Rattle.format.proofs.Lists.{Kept}

@@ -5,13 +5,22 @@ use mathlib.Core.Logic.{_≢_}
 use Prim.Native.Nat.{ℕ, _+_, _*_, _<_, _≤_}
 use native.Mathlib.Omega.{arith}
 use native.Mathlib.Decide.{ℕ-discrete}
+use borrow.Author.Tests.{lt-ltb}
 use lib.ListN.{length, getD, set}
 use lib.Seq.{getD-set-same, getD-set-other}
 use Rattle.rows.specs.declared.Cursor.{Cursor}
-use Rattle.rows.specs.Memory.{Memory, cell, put, colEnd}
+use Rattle.rows.specs.Memory.{Memory, rowWidth, rowsIn, col, put, colEnd}
 use Rattle.format.specs.Unfold.{part}
 use Rattle.format.proofs.Lists.{Kept, part-kept}
-use Rattle.rows.specs.Memory.{rowWidth}
+
+-- the number at a row's column, whether or not the row is lent
+abbrev pub spot : List ℕ → ℕ → ℕ → ℕ
+spot R i c = getD R (i * rowWidth + c) 0
+
+-- where it is lent, that is its column
+pub col-lent : (R : List ℕ) (i c : ℕ) → i < rowsIn R → col R i c ≡ spot R i c
+unfolding col
+col-lent R i c h = rw (lt-ltb i (rowsIn R) h)
 
 -- the rows, how many are used, the store, and how far it is settled
 pub record Land : Type 0 where
@@ -31,7 +40,7 @@ abbrev pub landOf : Memory → Cursor → Land
 landOf m c = landTo (c .store) m c
 
 abbrev pub at : Land → ℕ → ℕ → ℕ
-at L i j = cell (L .rows) i j
+at L i j = spot (L .rows) i j
 
 -- a row that ends where rows are used
 abbrev pub Done : Land → ℕ → Type 0
@@ -88,9 +97,9 @@ ext-put L r j v o w =
     }
 
 -- the columns of row r with one of them set
-pub cell-put : (R cs : List ℕ) (r j v : ℕ) → length cs ≡ rowWidth → r * rowWidth + rowWidth ≤ length R → ((i : ℕ) → i < rowWidth → cell R r i ≡ getD cs i 0)
-    → (i : ℕ) → i < rowWidth → cell (put R r j v) r i ≡ getD (set cs j v) i 0
-cell-put R cs r j v n h is i l = elim (ℕ-discrete i j) [
+pub spot-put : (R cs : List ℕ) (r j v : ℕ) → length cs ≡ rowWidth → r * rowWidth + rowWidth ≤ length R → ((i : ℕ) → i < rowWidth → spot R r i ≡ getD cs i 0)
+    → (i : ℕ) → i < rowWidth → spot (put R r j v) r i ≡ getD (set cs j v) i 0
+spot-put R cs r j v n h is i l = elim (ℕ-discrete i j) [
   | yes q ↦ (let a : r * rowWidth + j < length R = omega arith in let b : j < length cs = omega arith in rw (q, getD-set-same, getD-set-same))
   | no q ↦ (let a : r * rowWidth + i ≢ r * rowWidth + j = omega arith in rw (getD-set-other, getD-set-other) (is i l))
 ]

@@ -8,9 +8,9 @@ use native.Mathlib.Decide.{ℕ-discrete, decLt}
 use native.Mathlib.Numerals.{add-one}
 use borrow.Author.Tests.{lt-ltb, le-ltb}
 use lib.Dec.{ltb}
-use Rattle.rows.specs.Memory.{colKind, colCount, colCount2, colEnd}
+use Rattle.rows.specs.Memory.{colKind, colCount, colCount2, colEnd, rowsIn, col}
 use Rattle.format.specs.Standard.{Tree}
-use Rattle.format.specs.Unfold.{rowsIn, col, home, after, treesAt, pairsAt, entriesAt, node, treeAt, unfolded}
+use Rattle.format.specs.Unfold.{home, after, treesAt, pairsAt, entriesAt, node, treeAt, unfolded}
 use Rattle.format.specs.RowTest.{children, tested, fine}
 use Rattle.format.proofs.Tests.{on-bool}
 use Rattle.format.proofs.Tested.{Formed, tested-rows, Walk, done, next, Child, Ends, row-ends, walk-start, walk-after, walk-long}

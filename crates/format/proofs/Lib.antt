@@ -2,7 +2,6 @@
 pub mod Tests
 pub mod Lists
 pub mod Memories
-pub mod Columns
 pub mod Ground
 pub mod Lengths
 -- The worked examples, and that each call has one outcome.

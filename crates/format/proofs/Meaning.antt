@@ -4,21 +4,19 @@ use mathlib.Core.List.{List, _++_}
 use mathlib.Core.Logic.{_≢_}
 use Prim.Native.Nat.{ℕ, zero, suc, _+_, _*_, _≤_}
 use native.Mathlib.Omega.{arith}
-use borrow.Author.Tests.{lt-ltb}
 use lib.ListN.{length, take, take-append-drop}
 use lib.Seq.{length-take-le, getD-take}
 use Rattle.rows.specs.declared.Cursor.{Cursor}
-use Rattle.rows.specs.Memory.{Memory, fresh, zeroed, faultOf, rowWidth, openLimit, noKey}
+use Rattle.rows.specs.Memory.{Memory, fresh, zeroed, faultOf, rowWidth, openLimit, noKey, rowsIn}
 use Rattle.wire.proofs.Octets.{Bytes}
 use Rattle.format.specs.Reading.{ResultOf, ok, bad, Result, Ended, finished, refused, ended, unlessFault, reading}
 use Rattle.format.specs.Reading as our
 use Rattle.format.specs.Standard.{Tables, Tree, noTables, standard}
-use Rattle.format.specs.Unfold.{rowsIn, unfolded}
-use Rattle.format.specs.Unfold as flatly
+use Rattle.format.specs.Unfold.{unfolded}
 use Rattle.format.specs.RowTest.{keyless}
 use Rattle.format.proofs.Tests.{clash}
 use Rattle.format.proofs.Lists.{Kept, part-kept}
-use Rattle.format.proofs.Ground.{landOf}
+use Rattle.format.proofs.Ground.{col-lent, landOf}
 use Rattle.format.proofs.Alike.{Agree, fine, both, ours}
 use Rattle.format.proofs.Tables.{Sim}
 use Rattle.format.proofs.Rep.{Rep}
@@ -63,12 +61,11 @@ read-alike m bs h =
 
 view : {m : Memory} {c : Cursor} {s : Tables} → Sim (c .store) m c s → (B : List ℕ) → c .store ≤ length B → Kept (c .store) (m .store) B
     → View (landOf m c) (usedRows c m) B
-unfolding flatly.col
 view {m} {c} {s} x B h k =
     let n = used-many c m (x .rowsIn) in
     record {
       many = n;
-      cols = λ r j l i. rw (n, lt-ltb r (c .rows) l) (getD-take (c .rows * rowWidth) (m .rows) (r * rowWidth + j) 0 (omega arith));
+      cols = λ r j l i. col-lent (usedRows c m) r j (omega arith) ∙ getD-take (c .rows * rowWidth) (m .rows) (r * rowWidth + j) 0 (omega arith);
       texts = λ b z l. part-kept (c .store) (m .store) B b z k (x .storeIn) h l;
     }
 

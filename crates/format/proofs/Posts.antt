@@ -12,8 +12,8 @@ use Rattle.rows.specs.declared.Cursor.{Cursor}
 use Rattle.rows.specs.declared.Span.{Span}
 use Rattle.rows.specs.declared.Key.{Key}
 use Rattle.rows.specs.declared.Trait.{Trait}
-use Rattle.rows.specs.Memory.{Memory, messageLimit, span, keyOf, spanAt, spanUsed, cell, put, rowUsed, colKind, colBodyBegin, colBodySize}
-use Rattle.rows.specs.Memory.{colClassMark, colFlag, colNumber, colCount, colEnd}
+use Rattle.rows.specs.Memory.{Memory, messageLimit, span, keyOf, spanAt, spanUsed, put, rowUsed, colKind, colBodyBegin, colBodySize}
+use Rattle.rows.specs.Memory.{colClassMark, colFlag, colNumber, colCount, colEnd, col}
 use Rattle.wire.specs.declared.Part.{Part}
 use Rattle.wire.specs.declared.Part.the-variants.{More, Whole, Astray}
 use Rattle.wire.specs.declared.Date.{Date}
@@ -98,21 +98,21 @@ module _ {Q : Unit {0} → List ℕ → Cursor → Type 0} (row : ℕ) (R : List
   unfolding flagged
   wp-flagged flag h = only (rowUsed R c row) (λ e. gives h) halts
 
-  pub wp-counted : (col done : ℕ) → Q tt (put R row col (done + 1)) c → Gives Q (counted row col done R c)
+  pub wp-counted : (column done : ℕ) → Q tt (put R row column (done + 1)) c → Gives Q (counted row column done R c)
   unfolding counted
-  wp-counted col done h = unless (leb (c .rows) done) halts (λ e. only (rowUsed R c row) (λ e. gives h) halts)
+  wp-counted column done h = unless (leb (c .rows) done) halts (λ e. only (rowUsed R c row) (λ e. gives h) halts)
 
   pub wp-grown : (w : Width) (s : Span) (n : ℕ) → Q tt (put R row colCount ((s .size - n) / widthOf w)) c → Gives Q (grown row w s n R c)
   unfolding grown
   wp-grown w s n h = only (rowUsed R c row) (λ e. gives h) halts
 
   -- the object is one that has ended
-  pub wp-referred : (i : ℕ) (O : List ℕ) → (i < c .objects → (cell R (getD O i 0) colEnd ≡ 0 → ⊥)
+  pub wp-referred : (i : ℕ) (O : List ℕ) → (i < c .objects → (col R (getD O i 0) colEnd ≡ 0 → ⊥)
       → Q tt (put (put (put R row colKind 18) row colNumber (getD O i 0)) row colEnd (c .rows)) c) → Gives Q (referred row i O R c)
   unfolding referred
   wp-referred i O h =
       unless (ltb (length O) (c .objects)) halts (λ e. unless (leb (c .objects) i) halts (λ f. unless (not (rowUsed R c (getD O i 0))) halts (λ g.
-      unless (ltb (c .rows) (cell R (getD O i 0) colEnd)) halts (λ k. unless (eqb (cell R (getD O i 0) colEnd) 0) halts (λ l.
+      unless (ltb (c .rows) (col R (getD O i 0) colEnd)) halts (λ k. unless (eqb (col R (getD O i 0) colEnd) 0) halts (λ l.
       only (rowUsed R c row) (λ e. gives (h (leb-false (c .objects) i f) (eqb-false _ 0 l))) halts)))))
 
 pub wp-marker : {Q : ℕ → List ℕ → Cursor → Type 0} (k : Key) (left b : ℕ) (R : List ℕ) (c : Cursor)

@@ -9,16 +9,16 @@ use borrow.Author.Tests.{lt-ltb, le-ltb, le-leb, eq-eqb, ne-eqb, ltb-true, leb-t
 use lib.Dec.{T, leb, ltb, eqb}
 use lib.ListN.{length, getD}
 use Rattle.rows.specs.declared.Key.{Key}
-use Rattle.rows.specs.Memory.{span, colKind, colKeyMark, colNumber, colEnd}
+use Rattle.rows.specs.Memory.{span, colKind, colKeyMark, colNumber, colEnd, rowsIn, col}
 use Rattle.rows.specs.Kinds.{kindDate}
 use Rattle.utf8.specs.Grammar.{validText, follow}
-use Rattle.format.specs.Unfold.{rowsIn, col, part, after}
+use Rattle.format.specs.Unfold.{part, after}
 use Rattle.format.specs.RowTest.{spanFits, markFits, columnsFit, signedFits, valueFits, children, closes, Given, gives, parentIn, given}
 use Rattle.format.specs.RowTest.{markOf, isFilled, wellFormed, numberWritable, bodyWritable, keyWritable, writable, Tested, fine, faulty, testFrom}
 use Rattle.format.specs.RowTest.{tested}
 use Rattle.format.proofs.Tests.{on-bool, both, or-true}
 use Rattle.format.proofs.Tested.{parent, child-given}
-use Rattle.format.proofs.Ground.{Land, land, at, Done}
+use Rattle.format.proofs.Ground.{col-lent, Land, land, at, Done}
 use Rattle.format.proofs.Lands.{Within, classless, class, Meets, bare, named, long, Marked, Run, ends, goes, undefined}
 use Rattle.format.proofs.Lands.{null, boolean, integer, double, date, string, xmlDocument, xml, ints, uints, doubles, Form, number, text}
 use Rattle.format.proofs.Lands.{bytes, raw, array, object, vector, dictionary, reference, Sound, run-up}
@@ -129,10 +129,6 @@ module _ (R B : List ℕ) (u : ℕ) where
   abbrev L : Land
   L = land R (rowsIn R) B u
 
-  col-at : (i j : ℕ) → i < rowsIn R → col R i j ≡ at L i j
-  unfolding col
-  col-at i j h = rw (lt-ltb i (rowsIn R) h)
-
   done-in : (i : ℕ) → Done L i → i < rowsIn R
   done-in i d = let a = d .0 in let b = d .1 in omega arith
 
@@ -142,7 +138,7 @@ module _ (R B : List ℕ) (u : ℕ) where
   run-closes y stop ends l h = let e : 0 + y ≡ y = omega arith in rw e h
   run-closes y stop (goes {k = k} {n = n} d m r) l h =
       let e : suc n + y ≡ suc (n + y) = omega arith in
-      let c = col-at k colEnd (done-in k d) in
+      let c = col-lent R k colEnd (done-in k d) in
       let f = run-up r in
       let a = d .0 in
       rw (e, c, lt-ltb k (at L k colEnd) a, le-leb (at L k colEnd) stop (omega arith)) (run-closes y stop r l h)
@@ -153,7 +149,7 @@ module _ (R B : List ℕ) (u : ℕ) where
 
   after-more : (k n : ℕ) → k < rowsIn R → after R k (suc n) ≡ after R (at L k colEnd) n
   unfolding after
-  after-more k n h = rw (col-at k colEnd h)
+  after-more k n h = rw (col-lent R k colEnd h)
 
   -- the row behind them
   run-after : {g : Given} {k e n : ℕ} → Run L g k e n → (j : ℕ) → after R k (n + j) ≡ after R e j
@@ -165,7 +161,7 @@ module _ (R B : List ℕ) (u : ℕ) where
   unfolding after
   run-marked ends j h = absurd (omega arith)
   run-marked (goes d m r) zero h = m
-  run-marked (goes {k = k} d m r) (suc j) h = rw (col-at k colEnd (done-in k d)) (run-marked r j (omega arith))
+  run-marked (goes {k = k} d m r) (suc j) h = rw (col-lent R k colEnd (done-in k d)) (run-marked r j (omega arith))
 
   -- two runs
   two-marked : {a b : Given} {k mid e x y : ℕ} → Run L a k mid x → Run L b mid e y → (j : ℕ) → j < x + y → Marked L (cond (ltb j x) a b) (after R k j)
@@ -205,7 +201,7 @@ module _ (R B : List ℕ) (u : ℕ) where
     value-fits (vector c f p) is = refl
     value-fits (dictionary f p) is = refl
     value-fits (reference {t = t} l d a o e) is =
-        rw (is colNumber (omega arith), col-at t colEnd (done-in t d), col-at t colKind (done-in t d), lt-ltb t i l, le-leb (at L t colEnd) i a, o)
+        rw (is colNumber (omega arith), col-lent R t colEnd (done-in t d), col-lent R t colKind (done-in t d), lt-ltb t i l, le-leb (at L t colEnd) i a, o)
 
     number-fits : {k : ℕ} {cs : List ℕ} → Form L i k cs → ((j : ℕ) → j < rowWidth → col R i j ≡ getD (k ∷ m ∷ b ∷ z ∷ cs) j 0) → Timely i k
     unfolding numberWritable
@@ -304,13 +300,13 @@ module _ {R B : List ℕ} {u : ℕ} (table : Table R B u) where
   colsOf s = s .kind ∷ s .key .mark ∷ s .key .begin ∷ s .key .size ∷ s .body
 
   is-row : (i : ℕ) → i < rowsIn R → (s : Sound M i) → (j : ℕ) → j < rowWidth → col R i j ≡ getD (colsOf s) j 0
-  is-row i h s j l = col-at R B u i j h ∙ s .row j l
+  is-row i h s j l = col-lent R i j h ∙ s .row j l
 
   kids : (i : ℕ) → i < rowsIn R → Kids R B u i
   kids i h = let s = table .all i h in kids-in R B u i _ _ _ (s .form) (is-row i h s)
 
   ended : col R 0 colEnd ≡ rowsIn R
-  ended = col-at R B u 0 colEnd (table .some) ∙ table .last
+  ended = col-lent R 0 colEnd (table .some) ∙ table .last
 
   -- every row has the key that it is given: the root has none
   root-marked : Marked M (given R 0) 0
@@ -361,7 +357,7 @@ module _ {R B : List ℕ} {u : ℕ} (table : Table R B u) where
           same-columns R (colsOf S) B i 0 (S .kind) alike,
           o .columns,
           value-fits R B u i _ _ _ (S .form) (is-row i h S),
-          le-leb (col R i colEnd) (rowsIn R) (rw (col-at R B u i colEnd h) (S .top)),
+          le-leb (col R i colEnd) (rowsIn R) (rw (col-lent R i colEnd h) (S .top)),
           (kids i h) .closing,
         )
         (eq-eqb (S .key .mark) (markOf (given R i)) (sym (S .row 1 (omega arith)) ∙ g .mark))

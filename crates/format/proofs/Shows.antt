@@ -2,7 +2,7 @@
 use mathlib.Core.Path.{_≡_, refl, sym, ap, _∙_}
 use mathlib.Core.Bool.{Bool, true, false, _&&_, _||_}
 use mathlib.Core.List.{List, [], _∷_}
-use Prim.Native.Nat.{ℕ, suc, _+_, _*_, _^_, _≤_, _<_}
+use Prim.Native.Nat.{ℕ, suc, _+_, _^_, _≤_, _<_}
 use native.Mathlib.Nat.{add-zero, zero-add, add-assoc}
 use native.Mathlib.Omega.{arith}
 use lib.Dec.{leb, ltb, eqb}
@@ -17,7 +17,7 @@ use Rattle.format.specs.declared.Frame.{Frame}
 use Rattle.format.specs.Step.{assoc, dynamics, Use, forString, forKey, forClass, forExternal, forName, forVector, xmlText, tableText}
 use Rattle.format.specs.Step.{Word, integerWord, objectWord, sizeWord, textWord, Number, doubleBits, dateBits, rawFlag, objectsFlag, dictionaryFlag}
 use Rattle.format.specs.Step.{Mode, atMarker, atWord, atNumber, atFlag, atText, atRaw, astray, State, wait, over, none, step, run, begin}
-use Rattle.format.specs.Numbers.{countsFit, useFits, wordFits, numberRow, modeFits, pairsUsed, pairsFit, depthFits, finishable}
+use Rattle.format.specs.Numbers.{countsFit, useFits, wordFits, numberRow, modeFits, pairsUsed, pairsFit, depthFits, finishable, framesSize}
 use Rattle.format.specs.Numbers.{Numbers, lentOf, sameLent, sound, soundStep, Held, held, stateOf, numbersOf, memoryOf, afterStep, stepped, byteStep}
 use Rattle.format.specs.Answers.{blank, runHeld, costFrom, stateIn, takenBy}
 use Rattle.format.proofs.Tests.{on-bool, both, clash}
@@ -194,7 +194,7 @@ pub record Shows (lent : Lent) (at : ℕ) (s : State) (h : Held) : Type 0 where
   pub good : Good lent at s
   pub stacked : Stacked s
   pub lengths : (numbersIn h) .head .lent ≡ lent
-  pub room : length ((numbersIn h) .frames) ≡ openLimit * 6
+  pub room : length ((numbersIn h) .frames) ≡ framesSize
 
 pub good-shown : {lent : Lent} {at : ℕ} (s : State) → Good lent at s → Shown s
 good-shown s (waits {x = x} {ts = ts} h f u) = few x (length ts) f
@@ -222,7 +222,7 @@ room-numbered n s (waits h f u) = length-laid (n .frames) _
 room-numbered n s (finishes h) = refl
 room-numbered n s (declines t h z) = refl
 
-pub shows-after : {lent : Lent} {at : ℕ} (n : Numbers) (s : State) → Good lent at s → Stacked s → n .head .lent ≡ lent → length (n .frames) ≡ openLimit * 6
+pub shows-after : {lent : Lent} {at : ℕ} (n : Numbers) (s : State) → Good lent at s → Stacked s → n .head .lent ≡ lent → length (n .frames) ≡ framesSize
     → Shows lent at s (afterStep n s)
 unfolding afterStep
 shows-after n s g k l r =
@@ -266,7 +266,7 @@ taken-run s h (b ∷ bs) o k =
 
 -- the numbers that the first call leaves show the beginning
 pub shows-begin : (m : Memory) → Shows (lentOf m) 0 (begin m) (afterStep (blank (lentOf m)) (begin m))
-shows-begin m = shows-after (blank (lentOf m)) (begin m) (good-begin m) (stacked-begin m) refl (length-replicate (openLimit * 6) 0)
+shows-begin m = shows-after (blank (lentOf m)) (begin m) (good-begin m) (stacked-begin m) refl (length-replicate {A = ℕ} framesSize 0)
 
 -- ---- the laws along a run from the beginning
 

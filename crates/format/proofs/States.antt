@@ -15,7 +15,7 @@ use Rattle.format.specs.Step.{assoc, dynamics, Use, forString, forKey, f
 use Rattle.format.specs.Step.{integerWord, objectWord, sizeWord, textWord, doubleBits, dateBits, rawFlag, objectsFlag, dictionaryFlag, byteArray, rawVector}
 use Rattle.format.specs.Step.{Mode, atMarker, atWord, atNumber, atFlag, atText, atRaw, astray, State, wait, over, none}
 use Rattle.format.specs.Numbers.{Numbers, frameAt, framesOf, frameNumbers, laid, bodyPurpose, modeOf, useWork, workOf}
-use Rattle.format.specs.Numbers.{finishable, stateOf, numbersOf, memoryOf}
+use Rattle.format.specs.Numbers.{finishable, stateOf, numbersOf, memoryOf, framesSize}
 use Rattle.format.proofs.Tests.{is-true}
 use Rattle.format.proofs.Lists.{kept-sets, sets-in, Kept}
 use Rattle.format.specs.Refusals as no
@@ -123,8 +123,8 @@ Shown (over (finished c m)) = T (finishable c)
 Shown (over (refused number told place m)) = T (no.sayable number told place)
 Shown (none m) = ⊥
 
-pub state-numbered : (n : Numbers) (s : State) → length (n .frames) ≡ openLimit * 6 → Shown s → stateOf (numbersOf n s) (memoryOf s) ≡ s
-unfolding stateOf numbersOf
+pub state-numbered : (n : Numbers) (s : State) → length (n .frames) ≡ framesSize → Shown s → stateOf (numbersOf n s) (memoryOf s) ≡ s
+unfolding stateOf numbersOf openLimit
 state-numbered n (wait x ts c m) l h = rw (mode-of x, frames-laid (n .frames) ts (omega arith))
 state-numbered n (over (finished c m)) l h = rw (is-true (finishable c) h)
 state-numbered n (over (refused number told place m)) l h = rw (is-true (no.sayable number told place) h)

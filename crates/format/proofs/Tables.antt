@@ -7,11 +7,11 @@ use native.Mathlib.Omega.{arith}
 use lib.ListN.{length, getD}
 use Rattle.rows.specs.declared.Cursor.{Cursor}
 use Rattle.rows.specs.declared.Trait.{Trait}
-use Rattle.rows.specs.Memory.{Memory, memory, cursor, messageLimit, cell, colEnd}
+use Rattle.rows.specs.Memory.{Memory, memory, cursor, messageLimit, colEnd}
 use Rattle.format.specs.Decide.{traitAt}
 use Rattle.format.specs.Standard.{Tree, Traits, Tables}
 use Rattle.format.proofs.Lists.{Kept}
-use Rattle.format.proofs.Ground.{Land, land, at, Ext, landTo}
+use Rattle.format.proofs.Ground.{spot, Land, land, at, Ext, landTo}
 use Rattle.format.proofs.Rep.{Text, Own, own-ext, text-ext}
 use Rattle.rows.specs.Memory.{rowWidth}
 
@@ -88,7 +88,7 @@ trait-ext L L′ e N N′ k k′ u h t x r =
 -- rows, store and names change, so that what was finished and settled stays, and what was open stays open
 module _ {u : ℕ} {m : Memory} {c : Cursor} {s : Tables} (x : Sim u m c s) (R B N : List ℕ) (a n z k v : ℕ) where
   pub sim-grow : a ≤ messageLimit → n * rowWidth ≤ length R → v ≤ z → z ≤ length B → k * 2 ≤ length N → c .names ≤ k → Kept (c .names * 2) (m .names) N
-      → Ext (landTo u m c) (land R n B v) → ((r : ℕ) → r < c .rows → cell (m .rows) r colEnd ≡ 0 → cell R r colEnd ≡ 0)
+      → Ext (landTo u m c) (land R n B v) → ((r : ℕ) → r < c .rows → spot (m .rows) r colEnd ≡ 0 → spot R r colEnd ≡ 0)
       → Sim v (memory R B (m .strings) (m .objects) (m .traits) N) (cursor a n z (c .strings) (c .objects) (c .traits) k) s
   sim-grow l f g h i j p e o =
       record {

@@ -9,11 +9,11 @@ use native.Mathlib.Decide.{ℕ-discrete, decLt}
 use borrow.Author.Tests.{lt-ltb, le-ltb, ltb-true, leb-true, eqb-true, eqb-false, eq-eqb, ne-eqb}
 use lib.Dec.{leb, ltb, eqb}
 use lib.ListN.{length, length-take, length-drop}
-use Rattle.rows.specs.Memory.{colKind, colKeyMark, colKeyBegin, colKeySize, colBodyBegin, colBodySize}
+use Rattle.rows.specs.Memory.{colKind, colKeyMark, colKeyBegin, colKeySize, colBodyBegin, colBodySize, rowsIn, col}
 use Rattle.rows.specs.Memory.{colClassMark, colFlag, colNumber, colCount, colCount2, colEnd}
 use Rattle.rows.specs.Kinds.{kindUndefined, kindReference}
 use Rattle.utf8.specs.Grammar.{validText}
-use Rattle.format.specs.Unfold.{rowsIn, col, part, bodyOf, keyText, home, after}
+use Rattle.format.specs.Unfold.{part, bodyOf, keyText, home, after}
 use Rattle.format.specs.RowTest as test
 use Rattle.format.specs.RowTest.{hasBody, hasClass, hasFlag, hasNumber, hasCount, hasCount2, spanFits, markFits, meant, columnsFit, valueFits}
 use Rattle.format.specs.RowTest.{children, closes, gives, parentIn, numberIn, given, markOf, isFilled, wellFormed, numberWritable, bodyWritable}

@@ -12,13 +12,13 @@ use lib.Dec.{leb, ltb, eqb, lit<}
 use lib.IntN.{pos, negsuc}
 use lib.ListN.{length, getD}
 use lib.Signed.{mag}
-use Rattle.rows.specs.Memory.{rowWidth, colKind, colKeyBegin, colKeySize, colBodyBegin, colBodySize}
+use Rattle.rows.specs.Memory.{rowWidth, colKind, colKeyBegin, colKeySize, colBodyBegin, colBodySize, rowsIn, col}
 use Rattle.rows.specs.Memory.{colClassMark, colNumber, colCount, colCount2, colEnd, faultOf, memory}
 use Rattle.rows.specs.Kinds.{kindInteger, kindDate, kindArray, kindObject, kindObjectVector, kindDictionary}
 use Rattle.wire.specs.Sign.{ofColumn}
 use Rattle.utf8.specs.Grammar.{validText}
 use Rattle.format.specs.Standard.{Tree, array, object, objectVector, dictionary, count, countPairs, countEntries, isStar}
-use Rattle.format.specs.Unfold.{rowsIn, col, part, bodyOf, keyText, classText, flagSet, home, after, treesAt, pairsAt, entriesAt, node, treeAt}
+use Rattle.format.specs.Unfold.{part, bodyOf, keyText, classText, flagSet, home, after, treesAt, pairsAt, entriesAt, node, treeAt}
 use Rattle.format.specs.Unfold.{unfolded}
 use Rattle.format.specs.RowTest.{hasClass, signedFits, valueFits, children, fullKey, gives, given, numberWritable, bodyWritable, tested, fine}
 use Rattle.format.proofs.Tests.{both, clash}

@@ -8,9 +8,9 @@ use native.Mathlib.Nat.{mul-le-mul-right}
 use native.Mathlib.Numerals.{add-one}
 use lib.Dec.{eqb}
 use lib.ListN.{getD}
-use Rattle.rows.specs.Memory.{colKind, colEnd}
+use Rattle.rows.specs.Memory.{colKind, colEnd, rowsIn, col}
 use Rattle.wire.specs.Sign.{ofColumn}
-use Rattle.format.specs.Unfold.{rowsIn, part, home, after, treesAt, pairsAt, entriesAt, node, treeAt}
+use Rattle.format.specs.Unfold.{part, home, after, treesAt, pairsAt, entriesAt, node, treeAt}
 use Rattle.format.specs.Unfold as flatly
 use Rattle.format.specs.Standard.{Plain, undefined, null, boolean, integer, double, string, xmlDocument, xml, byteArray, date, intVector, uintVector}
 use Rattle.format.specs.Standard.{doubleVector, Tree, plain, array, object, objectVector, dictionary, Trees, nil, cons, Pairs, noPairs, pair, Entries}
@@ -57,7 +57,7 @@ pick F A O U D p (suc (suc (suc (suc (suc (suc (suc (suc (suc (suc (suc (suc (su
 -- rows R and store B show what L has
 pub record View (L : Land) (R B : List ℕ) : Type 0 where
   pub many : rowsIn R ≡ L .used
-  pub cols : (r j : ℕ) → r < L .used → j < rowWidth → flatly.col R r j ≡ at L r j
+  pub cols : (r j : ℕ) → r < L .used → j < rowWidth → col R r j ≡ at L r j
   pub texts : (b z : ℕ) → b + z ≤ L .full → part B b z ≡ part (L .store) b z
 
 trees-up : (ts : Trees) (L : Land) (k e : ℕ) → RepT ts L k e → k ≤ e
@@ -235,7 +235,7 @@ module _ (L : Land) (R B : List ℕ) (v : View L R B) where
         let c = v .cols k colEnd n (omega arith) in
         let c₁ = v .cols k₁ colEnd n₁ (omega arith) in
         let F : ℕ → Tree = treeAt l R B in
-        ap (λ z. entry (F k) (F z) (entriesAt F R (flatly.col R z colEnd) (countEntries es))) c
+        ap (λ z. entry (F k) (F z) (entriesAt F R (col R z colEnd) (countEntries es))) c
         ∙ ap (λ z. entry (F k) (F k₁) (entriesAt F R z (countEntries es))) c₁
         ∙ ap (λ z. entry z (F k₁) (entriesAt F R (at L k₁ colEnd) (countEntries es))) p
         ∙ ap (λ z. entry s z (entriesAt F R (at L k₁ colEnd) (countEntries es))) p₁ ∙ ap (entry s t) q

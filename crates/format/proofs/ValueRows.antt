@@ -12,7 +12,7 @@ use Rattle.rows.specs.declared.Cursor.{Cursor}
 use Rattle.rows.specs.declared.Span.{Span}
 use Rattle.rows.specs.declared.Key.{Key}
 use Rattle.rows.specs.declared.Trait.{Trait}
-use Rattle.rows.specs.Memory.{Memory, noKey, noSpan, span, cell, put, colNumber, colEnd}
+use Rattle.rows.specs.Memory.{Memory, rowsIn, col, noKey, noSpan, span, put, colNumber, colEnd}
 use Rattle.wire.specs.declared.Size.{Size}
 use Rattle.wire.specs.declared.Size.the-variants.{Old, New}
 use Rattle.wire.specs.declared.Shape.{Shape}
@@ -30,7 +30,7 @@ use Rattle.format.specs.Unfold.{part}
 use Rattle.format.specs.RowTest.{isObject, Given, fullKey}
 use Rattle.format.proofs.Tests.{on-bool}
 use Rattle.format.proofs.Memories.{withRows, atTo}
-use Rattle.format.proofs.Ground.{done-ext, ext-same, ext-trans, landOf}
+use Rattle.format.proofs.Ground.{col-lent, done-ext, ext-same, ext-trans, landOf}
 use Rattle.format.proofs.Lands.{run-as, ValidIn, Valid, Class, classless, class, Full, Other, class-full, class-other, Meets, run-ext}
 use Rattle.format.proofs.Lands.{Number, undefined, null, boolean, integer, double, date, Texts, string, xmlDocument, xml, Raws, ints, uints}
 use Rattle.format.proofs.Lands.{doubles, Form, number, text, bytes, raw, array, object, vector, dictionary, reference, valid-ext, meets-ext}
@@ -295,10 +295,11 @@ module _ (g : Given) (k : Key) (m₀ : Memory) (c₀ : Cursor) (ok₀ : Ok m₀ 
     -- ---- references
 
     target : {t e : ℕ} {m m₁ : Memory} {c c₁ : Cursor} → Keep m₀ c₀ m c → Keep m₀ c₀ m₁ c₁ → Entry (landOf m₀ c₀) t → Ends (landOf m₀ c₀) t
-        → (cell (m .rows) t colEnd ≡ 0 → ⊥)
+        → t < rowsIn (m .rows) → (col (m .rows) t colEnd ≡ 0 → ⊥)
         → e ≡ suc (c₀ .rows) → Form (landOf m₁ c₁) (c₀ .rows) 18 (0 ∷ 0 ∷ 0 ∷ 0 ∷ t ∷ 0 ∷ 0 ∷ e ∷ [])
-    target {t} k l h (still z) n e = let b = h .below in absurd (n (k .rows (t * rowWidth + colEnd) (omega arith) ∙ z))
-    target {t} k l h (already d) n e =
+    target {t} {m = m} k l h (still z) f n e =
+        let b = h .below in absurd (n (col-lent (m .rows) t colEnd f ∙ k .rows (t * rowWidth + colEnd) (omega arith) ∙ z))
+    target {t} k l h (already d) f n e =
         let x = keep-ext (ok₀ .storeIn) l in
         reference (h .below) (done-ext x t d) (rw (x .cols t colEnd d (omega arith)) (d .1)) (rw (x .cols t colKind d (omega arith)) (h .kind)) e
 
@@ -309,7 +310,9 @@ module _ (g : Given) (k : Key) (m₀ : Memory) (c₀ : Cursor) (ok₀ : Ok m₀ 
     referred-post {q} i m c bs x one o n = post-by _ m bs _ (wp-referred (c₀ .rows) (m .rows) c i (m .objects) (λ l e.
         let y = stage-put (stage-set x 0 18 free (omega arith)) 8 (getD (m .objects) i 0) (omega arith) (omega arith) in
         let h = entry i l in
-        stage-close {k = k} y (met y) (target (x .keep) (y .keep) h (h .ending) e one)))
+        let b = h .below in
+        let r = x .ok .rowsIn in
+        stage-close {k = k} y (met y) (target (x .keep) (y .keep) h (h .ending) (omega arith) e one)))
       where
         entry : (j : ℕ) → j < c .objects → Entry (landOf m₀ c₀) (getD (m .objects) j 0)
         entry j l = rw o (ok₀ .objects j (rw n at l))

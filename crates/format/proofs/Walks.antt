@@ -9,8 +9,8 @@ use native.Mathlib.Omega.{arith}
 use native.Mathlib.Decide.{decLt}
 use borrow.Author.Tests.{ltb-true, eqb-true, eqb-false}
 use lib.Dec.{ltb, eqb}
-use Rattle.rows.specs.Memory.{colEnd}
-use Rattle.format.specs.Unfold.{col, after}
+use Rattle.rows.specs.Memory.{colEnd, col}
+use Rattle.format.specs.Unfold.{after}
 use Rattle.format.specs.RowTest.{children, Given, keyless, gives, parentIn, given}
 use Rattle.format.proofs.Tests.{on-bool, clash}
 use Rattle.format.proofs.Tested.{after-one, Shut, parent, child-given}

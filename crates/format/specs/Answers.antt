@@ -1,10 +1,10 @@
 -- The public calls: for each, the answer and all that it leaves. The number, told value and place of a refusal stand in the answer as document 01 has them.
 use mathlib.Core.Bool.{true, false, cond, _||_}
 use mathlib.Core.List.{List, [], _∷_}
-use Prim.Native.Nat.{ℕ, zero, suc, _+_, _*_}
+use Prim.Native.Nat.{ℕ, zero, suc, _+_}
 use lib.Dec.{eqb}
 use lib.ListN.{replicate}
-use Rattle.rows.specs.Memory.{Memory, fresh, openLimit}
+use Rattle.rows.specs.Memory.{Memory, fresh}
 use Rattle.format.specs.Refusals as no
 use Rattle.format.specs.declared.Answer.{Answer}
 use Rattle.format.specs.declared.Answer.the-variants.{Waiting, Finished, Refused}
@@ -14,7 +14,7 @@ use Rattle.format.specs.declared.Lent.{Lent}
 use Rattle.format.specs.Reading.{Ended, finished, refused, reading}
 use Rattle.format.specs.Step as step
 use Rattle.format.specs.Step.{State, wait, over, none}
-use Rattle.format.specs.Numbers.{Numbers, Held, held, head, noWork, frameWidth, lentOf, stateOf, afterStep, byteStep}
+use Rattle.format.specs.Numbers.{Numbers, Held, held, head, noWork, framesSize, lentOf, stateOf, afterStep, byteStep}
 use Rattle.format.specs.Text.{textOr}
 use Rattle.format.specs.Writing.{Wrote, written, unwritten, writing}
 
@@ -36,7 +36,7 @@ answered (held s m) n = fed (answerOf (stateOf s m) n) s m
 
 -- a state of which nothing is known but the loans' lengths
 abbrev pub blank : Lent → Numbers
-blank lent = record { head = head 0 0 0 0 lent fresh 0 noWork; frames = replicate (openLimit * frameWidth) 0 }
+blank lent = record { head = head 0 0 0 0 lent fresh 0 noWork; frames = replicate framesSize 0 }
 
 -- begin sets every number of the state
 unfoldable pub beginCall : Memory → Fed

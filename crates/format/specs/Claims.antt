@@ -7,8 +7,8 @@ use mathlib.Core.Option.{none}
 use Prim.Native.Nat.{ℕ, _+_, _≤_, _*_, _^_, _<_, _-_}
 use lib.Dec.{eqb, T}
 use lib.ListN.{length, replicate, take, getD}
-use Rattle.rows.specs.Memory.{memory, Memory, zeroed, fresh, messageLimit, openLimit, noKey, loanNames, messageMost, loanRows, colKind, colNumber, rowWidth}
-use Rattle.rows.specs.Memory.{spanWidth, traitWidth, loanStore, loanStrings, loanObjects, loanTraits, rowsMost, storeMost, loanOutput}
+use Rattle.rows.specs.Memory.{memory, Memory, zeroed, fresh, messageLimit, noKey, loanNames, messageMost, loanRows, colKind, colNumber, rowWidth}
+use Rattle.rows.specs.Memory.{spanWidth, traitWidth, loanStore, loanStrings, loanObjects, loanTraits, rowsMost, storeMost, loanOutput, col}
 use Rattle.rows.specs.declared.Cursor.{Cursor}
 use Rattle.rows.specs.Kinds.{kindDate, kindString, kindXmlDocument, kindXml}
 use Rattle.wire.specs.Octets.{Bytes}
@@ -17,11 +17,11 @@ use Rattle.format.specs.Step.{State, over, wait, none, Mode, atMarker}
 use Rattle.format.specs.declared.Answer.{Answer}
 use Rattle.format.specs.declared.Answer.the-variants.{Waiting, Finished, Refused}
 use Rattle.format.specs.declared.Lent.{Lent}
-use Rattle.format.specs.Numbers.{Numbers, stateOf, head, noWork, workOf, frameWidth}
+use Rattle.format.specs.Numbers.{Numbers, stateOf, head, noWork, workOf, framesSize}
 use Rattle.format.specs.Answers.{Fed, fed, beginCall, feedCall, endCall, Read, read, readCall, output, Output}
 use Rattle.format.specs.declared.Frame.{Frame}
 use Rattle.format.specs.Codes.{statusWaiting, statusRefused}
-use Rattle.format.specs.Unfold.{col, unfolded}
+use Rattle.format.specs.Unfold.{unfolded}
 use Rattle.format.specs.RowTest.{fine, Tested, faulty}
 use Rattle.format.specs.Decide.{lost}
 use Rattle.format.specs.Standard.{Tree, encode}
@@ -78,7 +78,7 @@ unread (read a m) = read (untaken a) m
 
 -- the state that begin leaves: waiting for a marker, nothing taken and nothing used
 abbrev pub firstNumbers : Lent → Numbers
-firstNumbers l = record { head = head statusWaiting 0 0 0 l fresh 0 (workOf (atMarker noKey)); frames = replicate (openLimit * frameWidth) 0 }
+firstNumbers l = record { head = head statusWaiting 0 0 0 l fresh 0 (workOf (atMarker noKey)); frames = replicate framesSize 0 }
 
 -- a refused state
 abbrev pub refusedNumbers : ℕ → ℕ → ℕ → Lent → List ℕ → Numbers

@@ -11,7 +11,7 @@ use Rattle.rows.specs.declared.Span.{Span}
 use Rattle.rows.specs.declared.Key.{Key}
 use Rattle.rows.specs.declared.Trait.{Trait}
 use Rattle.rows.specs.Memory.{Memory, memory, cursor, rowWidth, spanWidth, traitWidth, colKind, colBodyBegin, colBodySize, colClassMark}
-use Rattle.rows.specs.Memory.{colFlag, colNumber, colCount, colEnd, cell, put, rowUsed, span, noSpan, keyOf, spanAt, spanUsed}
+use Rattle.rows.specs.Memory.{colFlag, colNumber, colCount, colEnd, col, put, rowUsed, span, noSpan, keyOf, spanAt, spanUsed}
 use Rattle.rows.specs.Kinds.{kindReference}
 use Rattle.wire.specs.declared.Date.{Date}
 use Rattle.wire.specs.declared.Date.the-variants.{Millis, Refused}
@@ -133,7 +133,7 @@ flagged row flag R c = inRow row (λ R. put R row colFlag flag) R c
 
 -- an entry is finished, after `done` others, each of which has a row of its own (12)
 unfoldable pub counted : ℕ → ℕ → ℕ → List ℕ → Cursor → Out (List ℕ) Unit
-counted row col done R c = cond (leb (c .rows) done) lost (inRow row (λ R. put R row col (done + 1)) R c)
+counted row column done R c = cond (leb (c .rows) done) lost (inRow row (λ R. put R row column (done + 1)) R c)
 
 -- a dictionary's key is finished, after `done` pairs; its value is next (12)
 unfoldable pub keyEnd : ℕ → ℕ → List ℕ → Cursor → Out Unit Unit
@@ -197,8 +197,8 @@ referred row i O R c =
     cond (ltb (length O) (c .objects)) lost
     (cond (leb (c .objects) i) (refuse no.noEntry i c)
     (cond (not (rowUsed R c (getD O i 0))) lost
-    (cond (ltb (c .rows) (cell R (getD O i 0) colEnd)) lost
-    (cond (eqb (cell R (getD O i 0) colEnd) 0) (refuse no.openObject i c)
+    (cond (ltb (c .rows) (col R (getD O i 0) colEnd)) lost
+    (cond (eqb (col R (getD O i 0) colEnd) 0) (refuse no.openObject i c)
     (inRow row (λ R. put (put (put R row colKind kindReference) row colNumber (getD O i 0)) row colEnd (c .rows)) R c)))))
 
 -- ---- traits

@@ -4,11 +4,11 @@ use mathlib.Core.Bool.{true, false}
 use mathlib.Core.List.{List, [], _∷_, _++_}
 use Prim.Native.Nat.{ℕ, suc, max, zero, _<_, _≤_}
 use lib.ListN.{length, drop}
-use Rattle.rows.specs.Memory.{loanOutput, openLimit, faultOf, memory}
+use Rattle.rows.specs.Memory.{loanOutput, openLimit, faultOf, memory, rowsIn}
 use Rattle.format.specs.Standard.{Tree, plain, array, object, objectVector, dictionary, Trees, nil, cons, Pairs, noPairs, pair, Entries, noEntries}
 use Rattle.format.specs.Standard.{entry, textBytes, encodePlain, arrayHead, objectHead, vectorHead, dictionaryHead, encode}
 use Rattle.format.specs.Writing.{Wrote, written, unwritten}
-use Rattle.format.specs.Unfold.{unfolded, rowsIn}
+use Rattle.format.specs.Unfold.{unfolded}
 use Rattle.format.specs.RowTest.{wellFormed, writable, Tested, fine, faulty, tested}
 use Rattle.format.specs.Refusals as no
 

@@ -5,14 +5,14 @@ use mathlib.Core.Option.{Option, none, some}
 use Prim.Native.Nat.{ℕ, zero, suc, _+_, _*_, _-_, _^_}
 use lib.Dec.{leb, ltb, eqb}
 use lib.ListN.{length}
-use Rattle.rows.specs.Memory.{colKind, colKeyMark, colKeyBegin, colKeySize, colBodyBegin, colBodySize, colClassMark, colFlag, colNumber, colCount}
+use Rattle.rows.specs.Memory.{colKind, colKeyMark, colKeyBegin, colKeySize, colBodyBegin, colBodySize, colClassMark, colFlag, colNumber, colCount, rowsIn, col}
 use Rattle.rows.specs.Memory.{colCount2, colEnd}
 use Rattle.rows.specs.Kinds.{kindUndefined, kindBoolean, kindInteger, kindDouble, kindString, kindXmlDocument, kindDate, kindArray, kindObject, kindXml}
 use Rattle.rows.specs.Kinds.{kindByteArray, kindIntVector, kindDoubleVector, kindObjectVector, kindDictionary, kindReference}
 use Rattle.utf8.specs.Grammar.{validText}
 use Rattle.format.specs.Refusals as no
 use Rattle.format.specs.Standard.{isStar}
-use Rattle.format.specs.Unfold.{rowsIn, col, bodyOf, keyText}
+use Rattle.format.specs.Unfold.{bodyOf, keyText}
 
 -- ---- which columns a kind has
 

@@ -4,8 +4,8 @@ use mathlib.Core.List.{List}
 use Prim.Native.Nat.{ℕ, _+_}
 use lib.Dec.{leb, eqb}
 use lib.ListN.{length}
-use Rattle.rows.specs.Memory.{rowsFault, colKind, colBodyBegin, colBodySize}
-use Rattle.format.specs.Unfold.{col, home, part}
+use Rattle.rows.specs.Memory.{rowsFault, colKind, colBodyBegin, colBodySize, col}
+use Rattle.format.specs.Unfold.{home, part}
 use Rattle.format.specs.RowTest.{hasText}
 
 -- the span of a row's text, or there is none

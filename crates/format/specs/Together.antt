@@ -6,7 +6,7 @@ use lib.ListN.{length, getD}
 use Rattle.rows.specs.declared.Cursor.{Cursor}
 use Rattle.rows.specs.declared.Span.{Span}
 use Rattle.rows.specs.declared.Key.{Key}
-use Rattle.rows.specs.Memory.{rowWidth, spanWidth, traitWidth, span, Memory, faultOf, messageLimit, openLimit, colEnd, cell, spanAt}
+use Rattle.rows.specs.Memory.{rowWidth, spanWidth, traitWidth, span, Memory, faultOf, messageLimit, openLimit, colEnd, col, spanAt}
 use Rattle.rows.specs.declared.Trait.{Trait}
 use Rattle.wire.specs.U29.{wordMore, wordBits}
 use Rattle.wire.specs.Big.{numberMore, numberBits}
@@ -163,7 +163,7 @@ TraitsFit c m = (i : ℕ) → i < c .traits → TraitIn (traitAt (m .traits) i) 
 
 -- an object by number: its row is used, and that row ends in the used rows; a name by number: it is used, and so is its span
 abbrev pub ObjectIn : ℕ → Cursor → Memory → Type 0
-ObjectIn i c m = RowIn (getD (m .objects) i 0) c × (cell (m .rows) (getD (m .objects) i 0) colEnd ≤ c .rows)
+ObjectIn i c m = RowIn (getD (m .objects) i 0) c × (col (m .rows) (getD (m .objects) i 0) colEnd ≤ c .rows)
 
 abbrev pub NameIn : ℕ → Cursor → Memory → Type 0
 NameIn i c m = (i < c .names) × SpanIn (spanAt (m .names) i) c

@@ -2,24 +2,16 @@
 use mathlib.Core.Bool.{Bool, true, false, cond, not}
 use mathlib.Core.List.{List, [], _∷_}
 use mathlib.Core.Option.{Option, none, some}
-use Prim.Native.Nat.{ℕ, zero, suc, _+_, _*_, _/_}
-use lib.Dec.{ltb, eqb}
-use lib.ListN.{length, getD, take, drop}
-use Rattle.rows.specs.Memory.{rowWidth, colKind, colKeyBegin, colKeySize, colBodyBegin, colBodySize, colClassMark, colFlag, colNumber, colCount, colCount2}
-use Rattle.rows.specs.Memory.{colEnd}
+use Prim.Native.Nat.{ℕ, zero, suc, _+_}
+use lib.Dec.{eqb}
+use lib.ListN.{getD, take, drop}
+use Rattle.rows.specs.Memory.{colKind, colKeyBegin, colKeySize, colBodyBegin, colBodySize, colClassMark, colFlag, colNumber, colCount, colCount2}
+use Rattle.rows.specs.Memory.{colEnd, rowsIn, col}
 use Rattle.rows.specs.Kinds.{kindReference}
 use Rattle.wire.specs.Sign.{ofColumn}
 use Rattle.format.specs.Standard.{undefined, null, boolean, integer, double, string, xmlDocument, xml, byteArray, date, intVector, uintVector}
 use Rattle.format.specs.Standard.{doubleVector, Tree, plain, array, object, objectVector, dictionary, Trees, nil, cons, Pairs, noPairs, pair, Entries}
 use Rattle.format.specs.Standard.{noEntries, entry}
-
--- how many rows there are
-abbrev pub rowsIn : List ℕ → ℕ
-rowsIn R = length R / rowWidth
-
--- a column of a row, 0 where there is no such row
-unfoldable pub col : List ℕ → ℕ → ℕ → ℕ
-col R i c = cond (ltb i (rowsIn R)) (getD R (i * rowWidth + c) 0) 0
 
 -- a part of the store, as far as it is there
 unfoldable pub part : List ℕ → ℕ → ℕ → List ℕ

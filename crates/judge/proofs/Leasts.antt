@@ -7,8 +7,8 @@ use native.Mathlib.Omega.{arith}
 use native.Mathlib.Decide.{decLt, decLe}
 use borrow.Author.Tests.{lt-ltb, le-ltb, le-leb, lt-leb}
 use lib.Dec.{leb, ltb}
-use Rattle.rows.specs.Memory.{colEnd}
-use Rattle.format.specs.Unfold.{col, after}
+use Rattle.rows.specs.Memory.{colEnd, col}
+use Rattle.format.specs.Unfold.{after}
 use Rattle.format.specs.RowTest.{closes, Given}
 use Rattle.format.proofs.Tests.{on-bool}
 use Rattle.format.proofs.Tested.{one-closes, walk-long}

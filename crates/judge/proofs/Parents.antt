@@ -4,8 +4,8 @@ use mathlib.Core.List.{List}
 use Prim.Native.Nat.{ℕ, suc, _<_}
 use native.Mathlib.Omega.{arith}
 use native.Mathlib.Decide.{ℕ-discrete}
-use Rattle.rows.specs.Memory.{colEnd}
-use Rattle.format.specs.Unfold.{col, after}
+use Rattle.rows.specs.Memory.{colEnd, col}
+use Rattle.format.specs.Unfold.{after}
 use Rattle.format.specs.RowTest.{children, Given, keyless, gives, parentIn, given}
 use Rattle.format.proofs.Tested.{Shut, parent, child-given}
 

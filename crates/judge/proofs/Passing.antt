@@ -9,9 +9,9 @@ use native.Mathlib.Decide.{decLt, ℕ-discrete}
 use borrow.Author.Tests.{lt-ltb, ltb-true, leb-true, eqb-false, eq-eqb, ne-eqb}
 use lib.Dec.{leb, ltb, eqb}
 use Rattle.rows.specs.Kinds.{kindUndefined, kindReference}
-use Rattle.rows.specs.Memory.{colKind, colKeyMark, colKeyBegin, colKeySize, colCount, colEnd}
+use Rattle.rows.specs.Memory.{colKind, colKeyMark, colKeyBegin, colKeySize, colCount, colEnd, rowsIn, col}
 use Rattle.utf8.specs.Grammar.{validText}
-use Rattle.format.specs.Unfold.{rowsIn, col, keyText, after}
+use Rattle.format.specs.Unfold.{keyText, after}
 use Rattle.format.specs.RowTest.{markFits, columnsFit, valueFits, children, closes, Given, keyless, gives, given, markOf, isFilled, wellFormed}
 use Rattle.format.specs.RowTest.{numberWritable, bodyWritable, keyWritable, writable, Tested, faulty, testFrom, tested}
 use Rattle.format.proofs.Tests.{on-bool, both}

@@ -8,11 +8,11 @@ use native.Mathlib.Omega.{arith}
 use lib.Dec.{eqb, ltb}
 use lib.ListN.{length, getD}
 use Rattle.rows.specs.declared.Span.{Span}
-use Rattle.rows.specs.Memory.{span, colKind, colKeySize, colBodyBegin, colBodySize, colClassMark}
+use Rattle.rows.specs.Memory.{span, colKind, colKeySize, colBodyBegin, colBodySize, colClassMark, col}
 use Rattle.rows.specs.Kinds.{kindObject}
 use Rattle.utf8.specs.Grammar.{validText, follow}
 use Rattle.format.specs.Standard.{isStar}
-use Rattle.format.specs.Unfold.{col, part, bodyOf, keyText}
+use Rattle.format.specs.Unfold.{part, bodyOf, keyText}
 use Rattle.format.specs.RowTest.{hasText, hasClass, numberWritable, bodyWritable}
 use Rattle.format.proofs.Tests.{on-bool, both}
 use Rattle.judge.specs.Pass.{rowWritable, lastKey, lastBody}

@@ -7,8 +7,7 @@ use Prim.Native.Nat.{ℕ, suc, _+_, _-_, _<_, _≤_}
 use native.Mathlib.Numerals.{add-one}
 use native.Mathlib.Omega.{arith}
 use borrow.Author.Tests.{lt-ltb, le-ltb, le-leb, lt-leb, eq-eqb, ne-eqb}
-use Rattle.rows.specs.Memory.{colKind, colCount, colEnd}
-use Rattle.format.specs.Unfold.{rowsIn, col}
+use Rattle.rows.specs.Memory.{colKind, colCount, colEnd, rowsIn, col}
 use Rattle.format.specs.RowTest.{children, Given, keyless, Tested, fine, faulty, tested}
 use Rattle.judge.specs.declared.Walked.{Walked}
 use Rattle.judge.specs.declared.Walked.the-variants.{Closed, Broken}

@@ -4,10 +4,10 @@ use mathlib.Core.List.{List}
 use Prim.Native.Nat.{ℕ, zero, suc}
 use lib.Dec.{leb, ltb, eqb}
 use Rattle.rows.specs.declared.Span.{Span}
-use Rattle.rows.specs.Memory.{span, colKind, colKeyMark, colKeyBegin, colKeySize, colBodyBegin, colBodySize, colClassMark, colCount, colEnd}
+use Rattle.rows.specs.Memory.{span, colKind, colKeyMark, colKeyBegin, colKeySize, colBodyBegin, colBodySize, colClassMark, colCount, colEnd, rowsIn, col}
 use Rattle.rows.specs.Kinds.{kindUndefined, kindArray, kindObject, kindReference}
 use Rattle.utf8.specs.Grammar.{validText}
-use Rattle.format.specs.Unfold.{rowsIn, col, keyText}
+use Rattle.format.specs.Unfold.{keyText}
 use Rattle.format.specs.RowTest.{hasText, hasBody, hasClass, isObject, spanFits, markFits, meant, columnsFit, valueFits, children, Given, keyless, anyKey}
 use Rattle.format.specs.RowTest.{fullKey, markOf, isFilled, numberWritable, bodyWritable, Tested, fine, faulty}
 use Rattle.judge.specs.declared.Walked.{Walked}

@@ -10,10 +10,10 @@ ghost use mathlib.Core.Path.{_≡_};
 ghost use mathlib.Core.Bool.{true, _&&_};
 ghost use Prim.Native.Nat.{_*_, _+_, _<_, _≤_};
 ghost use lib.Dec.{leb, eqb};
-ghost use Rattle.rows.specs.Memory.{rowWidth, colEnd};
+ghost use Rattle.rows.specs.Memory.{rowsIn, col, colEnd};
 ghost use Rattle.utf8.specs.Grammar.{validText};
 ghost use Rattle.format.specs.Standard.{isStar};
-ghost use Rattle.format.specs.Unfold as u;
+ghost use Rattle.format.specs.Unfold.{part};
 ghost use Rattle.format.specs.RowTest as t;
 ghost use Rattle.judge.specs.Answers.{judgedOf, givenOf};
 ghost use Rattle.judge.specs.Pass as pass;
@@ -67,13 +67,6 @@ enum Walked {
 }
 
 // ---- columns by kind
-
-fn cell(rows: &[usize], i: usize, c: usize) -> usize
-    requires { ⌜ c < rowWidth ⌝ }
-    ensures { λ r. ⌜ r ≡ u.col (now (rows .entry)) i c ⌝ }
-{
-    rows::column(rows, i, c)
-}
 
 fn within(kind: usize, first: usize, last: usize) -> bool
     ensures { λ r. ⌜ r ≡ (leb first kind && leb kind last) ⌝ }
@@ -192,9 +185,9 @@ fn meant(has: bool, v: usize) -> bool
 fn body_fits(rows: &[usize], store: &[u8], i: usize, kind: usize) -> bool
     ensures { λ r. ⌜ r ≡ pass.bodyFits (now (rows .entry)) (now (store .entry)) i kind ⌝ }
 {
-    let mark = cell(rows, i, columns::CLASS_MARK);
-    let begin = cell(rows, i, columns::BODY_BEGIN);
-    let size = cell(rows, i, columns::BODY_SIZE);
+    let mark = rows::column(rows, i, columns::CLASS_MARK);
+    let begin = rows::column(rows, i, columns::BODY_BEGIN);
+    let size = rows::column(rows, i, columns::BODY_SIZE);
     if has_class(kind) {
         return mark_fits(store, mark, begin, size);
     }
@@ -213,20 +206,20 @@ fn columns_fit(rows: &[usize], store: &[u8], i: usize, kind: usize) -> bool
     if !body_fits(rows, store, i, kind) {
         return false;
     }
-    let flag = cell(rows, i, columns::FLAG);
+    let flag = rows::column(rows, i, columns::FLAG);
     if !meant(has_flag(kind), flag) {
         return false;
     }
     if SET < flag {
         return false;
     }
-    if !meant(has_number(kind), cell(rows, i, columns::NUMBER)) {
+    if !meant(has_number(kind), rows::column(rows, i, columns::NUMBER)) {
         return false;
     }
-    if !meant(has_count(kind), cell(rows, i, columns::COUNT)) {
+    if !meant(has_count(kind), rows::column(rows, i, columns::COUNT)) {
         return false;
     }
-    meant(has_count2(kind), cell(rows, i, columns::COUNT2))
+    meant(has_count2(kind), rows::column(rows, i, columns::COUNT2))
 }
 
 // A column as a signed number of 32 bits.
@@ -267,18 +260,18 @@ fn target_fits(rows: &[usize], i: usize, target: usize) -> bool
     if i <= target {
         return false;
     }
-    if i < cell(rows, target, columns::END) {
+    if i < rows::column(rows, target, columns::END) {
         return false;
     }
-    is_object(cell(rows, target, columns::KIND))
+    is_object(rows::column(rows, target, columns::KIND))
 }
 
 fn value_fits(rows: &[usize], i: usize, kind: usize) -> bool
     ensures { λ r. ⌜ r ≡ t.valueFits (now (rows .entry)) i kind ⌝ }
 {
-    let number = cell(rows, i, columns::NUMBER);
-    let size = cell(rows, i, columns::BODY_SIZE);
-    let count = cell(rows, i, columns::COUNT);
+    let number = rows::column(rows, i, columns::NUMBER);
+    let size = rows::column(rows, i, columns::BODY_SIZE);
+    let count = rows::column(rows, i, columns::COUNT);
     if kind == kinds::BOOLEAN {
         return number <= SET;
     }
@@ -301,22 +294,22 @@ fn value_fits(rows: &[usize], i: usize, kind: usize) -> bool
 fn row_fits(rows: &[usize], store: &[u8], i: usize) -> bool
     ensures { λ r. ⌜ r ≡ pass.rowFits (now (rows .entry)) (now (store .entry)) i ⌝ }
 {
-    if cell(rows, 0, columns::END) <= i {
+    if rows::column(rows, 0, columns::END) <= i {
         return false;
     }
-    let kind = cell(rows, i, columns::KIND);
+    let kind = rows::column(rows, i, columns::KIND);
     if kind < kinds::UNDEFINED {
         return false;
     }
     if kinds::REFERENCE < kind {
         return false;
     }
-    let mark = cell(rows, i, columns::KEY_MARK);
+    let mark = rows::column(rows, i, columns::KEY_MARK);
     if !mark_fits(
         store,
         mark,
-        cell(rows, i, columns::KEY_BEGIN),
-        cell(rows, i, columns::KEY_SIZE),
+        rows::column(rows, i, columns::KEY_BEGIN),
+        rows::column(rows, i, columns::KEY_SIZE),
     ) {
         return false;
     }
@@ -326,7 +319,7 @@ fn row_fits(rows: &[usize], store: &[u8], i: usize) -> bool
     if !value_fits(rows, i, kind) {
         return false;
     }
-    cell(rows, i, columns::END) <= rows.len() / ROW_WIDTH
+    rows::column(rows, i, columns::END) <= rows.len() / ROW_WIDTH
 }
 
 // ---- a row and its children
@@ -345,13 +338,13 @@ fn capped_sum(a: usize, b: usize, most: usize) -> usize
 
 // How many children a row has, counted up to the number of rows: as many can't end with it.
 fn children(rows: &[usize], i: usize) -> usize
-    ensures { λ r. ⌜ r ≡ pass.capped (u.rowsIn (now (rows .entry))) (t.children (now (rows .entry)) i) ⌝ }
+    ensures { λ r. ⌜ r ≡ pass.capped (rowsIn (now (rows .entry))) (t.children (now (rows .entry)) i) ⌝ }
 {
     let most = rows.len() / ROW_WIDTH;
-    let kind = cell(rows, i, columns::KIND);
-    let count = cell(rows, i, columns::COUNT);
+    let kind = rows::column(rows, i, columns::KIND);
+    let count = rows::column(rows, i, columns::COUNT);
     if has_count2(kind) {
-        return capped_sum(count, cell(rows, i, columns::COUNT2), most);
+        return capped_sum(count, rows::column(rows, i, columns::COUNT2), most);
     }
     if kind == kinds::OBJECT_VECTOR {
         return capped_sum(count, 0, most);
@@ -405,7 +398,7 @@ fn is_filled(g: Gift) -> bool
 fn is_wrong(rows: &[usize], k: usize, g: Gift) -> bool
     ensures { λ r. ⌜ r ≡ pass.isWrong (now (rows .entry)) k (givenOf g) ⌝ }
 {
-    cell(rows, k, columns::KEY_MARK) != mark_of(g)
+    rows::column(rows, k, columns::KEY_MARK) != mark_of(g)
 }
 
 // Row `k` has an empty key, and is given one that is not.
@@ -413,7 +406,7 @@ fn is_empty(rows: &[usize], k: usize, g: Gift) -> bool
     ensures { λ r. ⌜ r ≡ pass.isEmpty (now (rows .entry)) k (givenOf g) ⌝ }
 {
     if is_filled(g) {
-        return cell(rows, k, columns::KEY_SIZE) == 0;
+        return rows::column(rows, k, columns::KEY_SIZE) == 0;
     }
     false
 }
@@ -433,19 +426,19 @@ fn lower(faulty: bool, k: usize, least: usize) -> usize
 
 // The children of row `i`, by the ends that they state, each looked at with what it is given.
 fn walk(rows: &[usize], i: usize, wrong: usize, empty: usize) -> Walked
-    requires { ⌜ (i < u.rowsIn (now rows)) × (u.col (now rows) i colEnd ≤ u.rowsIn (now rows)) ⌝ }
+    requires { ⌜ (i < rowsIn (now rows)) × (col (now rows) i colEnd ≤ rowsIn (now rows)) ⌝ }
     ensures { λ r. ⌜ r ≡ pass.walkOf (now (rows .entry)) i wrong empty ⌝ }
 {
-    let kind = cell(rows, i, columns::KIND);
-    let count = cell(rows, i, columns::COUNT);
-    let stop = cell(rows, i, columns::END);
+    let kind = rows::column(rows, i, columns::KIND);
+    let count = rows::column(rows, i, columns::COUNT);
+    let stop = rows::column(rows, i, columns::END);
     let n = children(rows, i);
     let mut w = wrong;
     let mut e = empty;
     let mut k = i + 1;
     let mut j: usize = 0;
     while j < n {
-        let next = cell(rows, k, columns::END);
+        let next = rows::column(rows, k, columns::END);
         if next <= k {
             return Walked::Broken;
         }
@@ -468,8 +461,8 @@ fn walk(rows: &[usize], i: usize, wrong: usize, empty: usize) -> Walked
 
 // Whether a part of the store is valid text; `known` is, and not judged again.
 fn is_text(store: &[u8], begin: usize, size: usize, known: Span) -> bool
-    requires { ⌜ validText (u.part (now store) (known .begin) (known .size)) ≡ true ⌝ }
-    ensures { λ r. ⌜ r ≡ validText (u.part (now (store .entry)) begin size) ⌝ }
+    requires { ⌜ validText (part (now store) (known .begin) (known .size)) ≡ true ⌝ }
+    ensures { λ r. ⌜ r ≡ validText (part (now (store .entry)) begin size) ⌝ }
 {
     if begin == known.begin {
         if size == known.size {
@@ -491,7 +484,7 @@ fn is_star(s: &[u8]) -> bool
 fn number_writable(rows: &[usize], i: usize, kind: usize) -> bool
     ensures { λ r. ⌜ r ≡ t.numberWritable (now (rows .entry)) i kind ⌝ }
 {
-    let number = cell(rows, i, columns::NUMBER);
+    let number = rows::column(rows, i, columns::NUMBER);
     if kind == kinds::INTEGER {
         return int29_fits(number);
     }
@@ -503,18 +496,18 @@ fn number_writable(rows: &[usize], i: usize, kind: usize) -> bool
 
 // `known` is valid text.
 fn body_writable(rows: &[usize], store: &[u8], i: usize, kind: usize, known: Span) -> bool
-    requires { ⌜ validText (u.part (now store) (known .begin) (known .size)) ≡ true ⌝ }
+    requires { ⌜ validText (part (now store) (known .begin) (known .size)) ≡ true ⌝ }
     ensures { λ r. ⌜ r ≡ t.bodyWritable (now (rows .entry)) (now (store .entry)) i kind ⌝ }
 {
-    let begin = cell(rows, i, columns::BODY_BEGIN);
-    let size = cell(rows, i, columns::BODY_SIZE);
+    let begin = rows::column(rows, i, columns::BODY_BEGIN);
+    let size = rows::column(rows, i, columns::BODY_SIZE);
     if text::has_text(kind) {
         return is_text(store, begin, size, known);
     }
     if !has_class(kind) {
         return true;
     }
-    if cell(rows, i, columns::CLASS_MARK) != SET {
+    if rows::column(rows, i, columns::CLASS_MARK) != SET {
         return true;
     }
     if !is_text(store, begin, size, known) {
@@ -528,10 +521,10 @@ fn body_writable(rows: &[usize], store: &[u8], i: usize, kind: usize, known: Spa
 
 // All that is asked of a row that is well formed, but that its key is not empty where it is given so. `key` and `body` are valid text.
 fn row_writable(rows: &[usize], store: &[u8], i: usize, key: Span, body: Span) -> bool
-    requires { ⌜ (validText (u.part (now store) (key .begin) (key .size)) ≡ true) × (validText (u.part (now store) (body .begin) (body .size)) ≡ true) ⌝ }
+    requires { ⌜ (validText (part (now store) (key .begin) (key .size)) ≡ true) × (validText (part (now store) (body .begin) (body .size)) ≡ true) ⌝ }
     ensures { λ r. ⌜ r ≡ pass.rowWritable (now (rows .entry)) (now (store .entry)) i ⌝ }
 {
-    let kind = cell(rows, i, columns::KIND);
+    let kind = rows::column(rows, i, columns::KIND);
     if !number_writable(rows, i, kind) {
         return false;
     }
@@ -540,8 +533,8 @@ fn row_writable(rows: &[usize], store: &[u8], i: usize, key: Span, body: Span) -
     }
     is_text(
         store,
-        cell(rows, i, columns::KEY_BEGIN),
-        cell(rows, i, columns::KEY_SIZE),
+        rows::column(rows, i, columns::KEY_BEGIN),
+        rows::column(rows, i, columns::KEY_SIZE),
         key,
     )
 }
@@ -550,11 +543,11 @@ fn row_writable(rows: &[usize], store: &[u8], i: usize, key: Span, body: Span) -
 fn last_key(rows: &[usize], i: usize, known: Span) -> Span
     ensures { λ r. ⌜ r ≡ pass.lastKey (now (rows .entry)) i known ⌝ }
 {
-    let size = cell(rows, i, columns::KEY_SIZE);
+    let size = rows::column(rows, i, columns::KEY_SIZE);
     if size == 0 {
         return known;
     }
-    let begin = cell(rows, i, columns::KEY_BEGIN);
+    let begin = rows::column(rows, i, columns::KEY_BEGIN);
     Span { begin, size }
 }
 
@@ -562,14 +555,14 @@ fn last_key(rows: &[usize], i: usize, known: Span) -> Span
 fn last_body(rows: &[usize], i: usize, known: Span) -> Span
     ensures { λ r. ⌜ r ≡ pass.lastBody (now (rows .entry)) i known ⌝ }
 {
-    let kind = cell(rows, i, columns::KIND);
-    let begin = cell(rows, i, columns::BODY_BEGIN);
-    let size = cell(rows, i, columns::BODY_SIZE);
+    let kind = rows::column(rows, i, columns::KIND);
+    let begin = rows::column(rows, i, columns::BODY_BEGIN);
+    let size = rows::column(rows, i, columns::BODY_SIZE);
     if text::has_text(kind) {
         return Span { begin, size };
     }
     if has_class(kind) {
-        if cell(rows, i, columns::CLASS_MARK) == SET {
+        if rows::column(rows, i, columns::CLASS_MARK) == SET {
             return Span { begin, size };
         }
     }

@@ -120,7 +120,7 @@ module _ (b : ℕ) (octet : b < 2 ^ 8) (h : Head) (F : List ℕ) (m : Memory) wh
   module _ (going : hasEnded h ≡ false) (room : length F ≡ framesSize) where
     -- the numbers after a byte show the state after it
     after-shown : stateIn (byteStep b (held (numbers h F) m)) ≡ stateAfter b h F m
-    unfolding afterStep openLimit
+    unfolding afterStep
     after-shown = ap stateIn (goes b h F m going) ∙ state-numbered (numbers h F) (stateAfter b h F m) room (after-well .1)
 
     -- what was never begun takes no byte, and 12 counts none

@@ -13,7 +13,7 @@ use Rattle.rows.specs.declared.Cursor.{Cursor}
 use Rattle.rows.specs.declared.Span.{Span}
 use Rattle.rows.specs.declared.Key.{Key}
 use Rattle.rows.specs.declared.Trait.{Trait}
-use Rattle.rows.specs.Memory.{Memory, memory, colKind, colNumber, colEnd, colCount, colCount2, cell, put, rowUsed, noKey, keyOf, noSpan, traitWidth}
+use Rattle.rows.specs.Memory.{Memory, memory, colKind, colNumber, colEnd, colCount, colCount2, col, put, rowUsed, noKey, keyOf, noSpan, traitWidth}
 use Rattle.rows.specs.Kinds.{kindReference}
 use Rattle.wire.specs.declared.Size.{Size}
 use Rattle.wire.specs.declared.Size.the-variants.{Old, New}
@@ -81,7 +81,7 @@ spends-referred row i =
     record {
       goes = goes-by Any nothing (λ m. onRows (referred row i (m .objects)) m)
           (λ m c e. tests m c (ltb (length (m .objects)) (c .objects)) (leb (c .objects) i) (not (rowUsed (m .rows) c (getD (m .objects) i 0)))
-          (ltb (c .rows) (cell (m .rows) (getD (m .objects) i 0) colEnd)) (eqb (cell (m .rows) (getD (m .objects) i 0) colEnd) 0))
+          (ltb (c .rows) (col (m .rows) (getD (m .objects) i 0) colEnd)) (eqb (col (m .rows) (getD (m .objects) i 0) colEnd) 0))
           (λ m c. search (costs-lift, costs-cond, costless, costs, spent-none, tt) depth 10);
       keeps = λ m c. search (keeps-cond, halts, stays) depth 9;
     }

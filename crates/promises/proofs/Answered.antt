@@ -4,13 +4,13 @@ use mathlib.Core.Path.{_≡_, refl, sym, ap, _∙_}
 use mathlib.Core.Bool.{true, false}
 use mathlib.Core.Logic.{_≢_}
 use mathlib.Core.List.{List, [], _∷_}
-use Prim.Native.Nat.{ℕ, suc, _+_, _*_, _^_, _≤_, _<_}
+use Prim.Native.Nat.{ℕ, suc, _+_, _^_, _≤_, _<_}
 use native.Mathlib.Omega.{arith}
 use lib.Dec.{leb}
 use borrow.Author.Tests.{leb-true, leb-false, lt-leb}
 use lib.ListN.{length, replicate, length-replicate}
 use Rattle.rows.specs.declared.Cursor.{Cursor}
-use Rattle.rows.specs.Memory.{Memory, fresh, zeros, zeroed, faultOf, messageLimit, openLimit, noKey, loanNames}
+use Rattle.rows.specs.Memory.{Memory, fresh, zeros, zeroed, faultOf, messageLimit, noKey, loanNames}
 use Rattle.wire.proofs.Octets.{Bytes}
 use Rattle.format.specs.declared.Answer.{Answer}
 use Rattle.format.specs.declared.Answer.the-variants.{Waiting, Finished, Refused}
@@ -19,7 +19,7 @@ use Rattle.format.specs.declared.Frame.{Frame}
 use Rattle.format.specs.Reading.{Ended, finished, refused, taken}
 use Rattle.format.specs.Step.{Mode, atMarker, State, wait, over, none, act, step, end, begin}
 use Rattle.format.specs.Numbers.{Numbers, Held, held, head, noWork, lentOf, workOf, laid, stateOf, numbersOf, memoryOf, afterStep, byteStep, sound}
-use Rattle.format.specs.Numbers.{soundStep}
+use Rattle.format.specs.Numbers.{soundStep, framesSize}
 use Rattle.format.specs.Answers.{fed, answerOf, answered, beginCall, runHeld, costFrom, stateIn, takenBy, feedCall, endOf, endCall}
 use Rattle.format.proofs.Tests.{on-bool, is-true, clash}
 use Rattle.format.proofs.Along.{Able}
@@ -33,7 +33,6 @@ use Rattle.format.specs.Claims.{Going, waiting, unbegun, FeedLeaves, EndLeaves,
 use Rattle.promises.proofs.Counted.{Waits, waits-all}
 use Rattle.format.specs.Refusals as refusals
 use Rattle.format.specs.Codes.{statusWaiting, statusRefused}
-use Rattle.format.specs.Numbers.{frameWidth}
 pub use Rattle.format.specs.Claims.{firstNumbers, refusedNumbers, lostNumbers}
 pub use Rattle.format.specs.Claims.{Refuses, byte, past, stray, Feeds, awaits, completes, rejects}
 
@@ -46,7 +45,7 @@ begin-waits m e = rw e
 
 -- or refuses the lowest faulty loan, with loans as found
 pub begin-refuses : (m : Memory) (loan : ℕ) → faultOf m ≡ suc loan
-    → beginCall m ≡ fed (Refused refusals.badLoan (suc loan) 0 0) (refusedNumbers refusals.badLoan (suc loan) 0 (lentOf m) (replicate (openLimit * frameWidth) 0)) m
+    → beginCall m ≡ fed (Refused refusals.badLoan (suc loan) 0 0) (refusedNumbers refusals.badLoan (suc loan) 0 (lentOf m) (replicate framesSize 0)) m
 unfolding beginCall begin afterStep numbersOf stateOf
 begin-refuses m loan e =
     let l : suc loan ≤ loanNames = rw e at (fault-most m) in

@@ -4,7 +4,7 @@ use mathlib.Core.Path.{_≡_}
 use mathlib.Core.Bool.{true, false}
 use mathlib.Core.Logic.{_≢_}
 use mathlib.Core.List.{List, [], _∷_, _++_}
-use Prim.Native.Nat.{ℕ, suc, _+_, _*_, _/_, _^_, _≤_, _<_}
+use Prim.Native.Nat.{ℕ, suc, _+_, _/_, _^_, _≤_, _<_}
 use lib.Dec.{T}
 use lib.ListN.{length, take, drop, replicate}
 use Rattle.rows.specs.declared.Cursor.{Cursor}
@@ -15,7 +15,7 @@ use Rattle.wire.specs.U29.{partOf}
 use Rattle.wire.specs.Word.{sizeOf}
 use Rattle.utf8.specs.States.{stepOf}
 use Rattle.rows.specs.Memory.{rowWidth, spanWidth, loanRows, loanStore, loanStrings, loanObjects}
-use Rattle.rows.specs.Memory.{Memory, fresh, zeroed, faultOf, rowsFault, messageLimit, openLimit, noKey, colKind, colBodyBegin, colBodySize}
+use Rattle.rows.specs.Memory.{Memory, fresh, zeroed, faultOf, rowsFault, messageLimit, openLimit, noKey, colKind, colBodyBegin, colBodySize, rowsIn, col}
 use Rattle.format.specs.Refusals as no
 use Rattle.format.specs.declared.Answer.{Answer}
 use Rattle.format.specs.declared.Answer.the-variants.{Waiting, Finished, Refused}
@@ -24,10 +24,10 @@ use Rattle.format.specs.declared.Frame.{Frame}
 use Rattle.format.specs.Reading as reader
 use Rattle.format.specs.Reading.{ok, bad, Ended, finished, refused, ended, unlessFault, reading}
 use Rattle.format.specs.Step.{Mode, atMarker, atWord, atText, Word, Text, tableText, Use, wait, over, none, end, run, begin}
-use Rattle.format.specs.Numbers.{Numbers, stateOf, lentOf, frameWidth}
+use Rattle.format.specs.Numbers.{Numbers, stateOf, lentOf, framesSize}
 use Rattle.format.specs.Answers.{Fed, fed, answerOf, beginCall, feedCall, endCall, read, readCall, output, writeCall, textCall}
 use Rattle.format.specs.Standard.{Tables, Tree, noTables, value, standard, encode}
-use Rattle.format.specs.Unfold.{col, home, part, unfolded, rowsIn}
+use Rattle.format.specs.Unfold.{home, part, unfolded}
 use Rattle.format.specs.Holds.{canHold}
 use Rattle.format.specs.RowTest.{tested}
 use Rattle.format.specs.Writing.{written, unwritten, writing}
@@ -213,7 +213,7 @@ begin-waits = answered.begin-waits
 
 -- after 1
 pub begin-refuses : (m : Memory) (loan : ℕ) → faultOf m ≡ suc loan
-    → beginCall m ≡ fed (Refused no.badLoan (suc loan) 0 0) (refusedNumbers no.badLoan (suc loan) 0 (lentOf m) (replicate (openLimit * frameWidth) 0)) m
+    → beginCall m ≡ fed (Refused no.badLoan (suc loan) 0 0) (refusedNumbers no.badLoan (suc loan) 0 (lentOf m) (replicate framesSize 0)) m
 begin-refuses = answered.begin-refuses
 
 -- feed and end on any state and loans: a refusal that is new leaves all loans zero, one that is repeated leaves everything

@@ -6,7 +6,7 @@ use Prim.Native.Nat.{ℕ, zero, suc, _+_, _<_}
 use native.Mathlib.Omega.{arith}
 use borrow.Author.Tests.{eqb-true}
 use lib.Dec.{eqb}
-use Rattle.format.specs.Unfold.{rowsIn}
+use Rattle.rows.specs.Memory.{rowsIn}
 use Rattle.format.specs.RowTest.{wellFormed, writable, testFrom, tested}
 use Rattle.format.specs.Endings.{RowPasses, AllPass, TestSays, allPass, noRows, firstMalformed, firstUnwritable}
 use Rattle.format.proofs.Tests.{on-bool, clash}

@@ -11,7 +11,7 @@ use lib.Dec.{T, leb, eqb, lit≤}
 use borrow.Author.Tests.{leb-true, eqb-true}
 use lib.ListN.{length}
 use Rattle.rows.specs.declared.Cursor.{Cursor}
-use Rattle.rows.specs.Memory.{Memory, faultOf, loanFault, faulty, rowsFault, memory, messageMost, messageLimit}
+use Rattle.rows.specs.Memory.{Memory, faultOf, loanFault, faulty, rowsFault, memory, messageMost, messageLimit, rowsIn}
 use Rattle.wire.proofs.Octets.{Bytes}
 use Rattle.format.specs.Reading.{Ended, finished, refused, reading}
 use Rattle.format.specs.Step.{State, wait, over, none, run, end, begin}
@@ -19,7 +19,6 @@ use Rattle.format.specs.Numbers.{Numbers, Held, held, finishable, lentOf, state
 use Rattle.format.specs.Answers.{answerOf, blank, beginCall, runHeld, cost, costFrom, stateIn, takenBy, feedCall, endOf, endCall, readOf, readCall}
 use Rattle.format.specs.Answers.{writtenOf, writeCall}
 use Rattle.format.specs.declared.Lent.{Lent}
-use Rattle.format.specs.Unfold.{rowsIn}
 use Rattle.format.specs.RowTest.{Tested, fine, faulty as unfitRow, wellFormed, writable, testFrom, tested}
 use Rattle.format.specs.Writing.{Wrote, writing}
 use Rattle.format.proofs.Tests.{on-bool, is-true, both, clash}

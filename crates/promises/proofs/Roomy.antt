@@ -14,7 +14,7 @@ use Rattle.rows.specs.declared.Span.{Span}
 use Rattle.rows.specs.declared.Key.{Key}
 use Rattle.rows.specs.declared.Trait.{Trait}
 use Rattle.rows.specs.Memory.{Memory, memory, messageLimit, openLimit, rowWidth, spanWidth, traitWidth, colKind, colBodyBegin, colBodySize, colClassMark, colFlag, colNumber}
-use Rattle.rows.specs.Memory.{colCount, colCount2, colEnd, cell, put, rowUsed, spanAt, spanUsed, noKey, keyOf, noSpan, zeros, zeroed, fresh, faultOf}
+use Rattle.rows.specs.Memory.{colCount, colCount2, colEnd, col, put, rowUsed, spanAt, spanUsed, noKey, keyOf, noSpan, zeros, zeroed, fresh, faultOf}
 use Rattle.rows.specs.Kinds.{kindReference}
 use Rattle.wire.specs.declared.Part.{Part}
 use Rattle.wire.specs.declared.Part.the-variants.{More, Whole, Astray}
@@ -39,6 +39,7 @@ use Rattle.format.specs.Decide.{oldText, reserved, stored, judged, textEnd, ent
 use Rattle.format.specs.Reading as r
 use Rattle.format.specs.Reading.{ResultOf, Result, ok, bad, bind, _>>=_, ret, Reader, Values, by, decided, taken, Ended, finished, refused, ended, reading}
 use Rattle.format.proofs.Tests.{both, clash}
+use Rattle.format.proofs.Ground.{col-lent}
 use Rattle.format.specs.Standard.{Tables, Tree}
 use Rattle.format.proofs.Alike.{Agree}
 use Rattle.format.proofs.Alike as alike
@@ -158,20 +159,29 @@ used-more n R c row e =
     let b = leb-true (c .rows) (length R / rowWidth) (q .1) in
     rw (q .0) (le-leb (c .rows) (length (more n R) / rowWidth) (omega (arith, more-length n R)))
 
+-- a column of a used row
+col-more : (n : ℕ) (R : List ℕ) (c : Cursor) (row k : ℕ) → rowUsed R c row ≡ true → col (more n R) row k ≡ col R row k
+col-more n R c row k e =
+    let q = both (ltb row (c .rows)) (leb (c .rows) (length R / rowWidth)) e in
+    let a = ltb-true row (c .rows) (q .0) in
+    let b = leb-true (c .rows) (length R / rowWidth) (q .1) in
+    col-lent (more n R) row k (omega (arith, more-length n R)) ∙ more-at n R (row * rowWidth + k) ∙ sym (col-lent R row k (omega arith))
+
 -- row becomes a reference
 referred-like : {w : Longer} (n o row i : ℕ) (O R : List ℕ) (c : Cursor) → Like w (more n) (referred row i O R c) (referred row i (more o O) (more n R) c)
 unfolding referred
 referred-like n o row i O R c =
-    rw (more-at o O i, more-at n R (getD O i 0 * rowWidth + colEnd))
+    rw (more-at o O i)
     (guard (more n) (ltb (length O) (c .objects)) (ltb (length (more o O)) (c .objects)) refusals.lost 0 0 _ _ strays
     (λ h. let j = ltb-false (length O) (c .objects) h in le-ltb (length (more o O)) (c .objects) (omega (arith, more-length o O)))
     (λ h. test (more n) (leb (c .objects) i) _ _ _ _ (λ z. stops) (λ z.
     guard (more n) (not (rowUsed R c (getD O i 0))) (not (rowUsed (more n R) c (getD O i 0))) refusals.lost 0 0 _ _ strays
     (λ h. rw (used-more n R c (getD O i 0) (not-false _ h)))
-    (λ h. test (more n) (ltb (c .rows) (cell R (getD O i 0) colEnd)) _ _ _ _ (λ z. stops) (λ z. test (more n) (eqb (cell R (getD O i 0) colEnd) 0) _ _ _ _ (λ z. stops)
+    (λ h. rw (col-more n R c (getD O i 0) colEnd (not-false _ h))
+    (test (more n) (ltb (c .rows) (col R (getD O i 0) colEnd)) _ _ _ _ (λ z. stops) (λ z. test (more n) (eqb (col R (getD O i 0) colEnd) 0) _ _ _ _ (λ z. stops)
     (λ z. in-row row (λ R. put (put (put R row colKind kindReference) row colNumber (getD O i 0)) row colEnd (c .rows)) n
     (λ R l. rw (put-more n R row colKind kindReference (omega arith) l, put-more n (put R row colKind kindReference) row colNumber (getD O i 0) (omega arith) (rw length-set l))
-    (put-more n (put (put R row colKind kindReference) row colNumber (getD O i 0)) row colEnd (c .rows) (omega arith) (rw (length-set, length-set) l))) R c))))))
+    (put-more n (put (put R row colKind kindReference) row colNumber (getD O i 0)) row colEnd (c .rows) (omega arith) (rw (length-set, length-set) l))) R c)))))))
 
 -- ---- readers
 

@@ -14,7 +14,7 @@ use Rattle.rows.specs.declared.Span.{Span}
 use Rattle.rows.specs.declared.Key.{Key}
 use Rattle.rows.specs.declared.Trait.{Trait}
 use Rattle.rows.specs.Memory.{Memory, zeroed, rowWidth, spanWidth, traitWidth, messageLimit, openLimit, colCount, colCount2}
-use Rattle.rows.specs.Memory.{colEnd, colClassMark, colBodyBegin, colBodySize, cell, put, rowUsed, spanAt, spanUsed}
+use Rattle.rows.specs.Memory.{colEnd, colClassMark, colBodyBegin, colBodySize, col, put, rowUsed, spanAt, spanUsed}
 use Rattle.wire.specs.declared.Part.the-variants.{Whole}
 use Rattle.wire.specs.declared.Shape.the-variants.{Known}
 use Rattle.wire.specs.declared.Size.the-variants.{Old}
@@ -182,12 +182,12 @@ module _ (c : Cursor) where
   referred-lost : (row i : ℕ) (m : Memory) → Room c m → i < c .objects → (ObjectIn i c m → ⊥) → referred row i (m .objects) (m .rows) c ≡ lost
   unfolding referred
   referred-lost row i m h l f = elim (decLt (getD (m .objects) i 0) (c .rows)) [
-    | yes o ↦ rw (le-ltb _ _ (h .objects), lt-leb _ _ l, room-row h (getD (m .objects) i 0) o, lt-ltb (c .rows) (cell (m .rows) (getD (m .objects) i 0) colEnd) (past o))
+    | yes o ↦ rw (le-ltb _ _ (h .objects), lt-leb _ _ l, room-row h (getD (m .objects) i 0) o, lt-ltb (c .rows) (col (m .rows) (getD (m .objects) i 0) colEnd) (past o))
     | no o ↦ rw (le-ltb _ _ (h .objects), lt-leb _ _ l, le-ltb (getD (m .objects) i 0) (c .rows) (omega arith))
   ]
     where
-      past : RowIn (getD (m .objects) i 0) c → c .rows < cell (m .rows) (getD (m .objects) i 0) colEnd
-      past o = elim (decLt (c .rows) (cell (m .rows) (getD (m .objects) i 0) colEnd)) [ yes p ↦ p | no p ↦ absurd (f (o, omega arith)) ]
+      past : RowIn (getD (m .objects) i 0) c → c .rows < col (m .rows) (getD (m .objects) i 0) colEnd
+      past o = elim (decLt (c .rows) (col (m .rows) (getD (m .objects) i 0) colEnd)) [ yes p ↦ p | no p ↦ absurd (f (o, omega arith)) ]
 
   -- a trait by number that fits what is used is given
   old-trait-gives : (i : ℕ) (U : List ℕ) → c .traits ≤ length U / traitWidth → i < c .traits → TraitIn (traitAt U i) c → oldTrait i U c ≡ give (traitAt U i) tt c

@@ -9,14 +9,14 @@ use lib.ListN.{length}
 use lib.Dec.{eqb}
 use lib.Seq.{length-take-le}
 use Rattle.rows.specs.declared.Cursor.{Cursor}
-use Rattle.rows.specs.Memory.{Memory, loanFault, rowsFault, rowsMost, storeMost, rowWidth, messageLimit, colKind, colBodyBegin, colBodySize}
+use Rattle.rows.specs.Memory.{Memory, loanFault, rowsFault, rowsMost, storeMost, rowWidth, messageLimit, colKind, colBodyBegin, colBodySize, col}
 use Rattle.format.specs.declared.Answer.the-variants.{Finished, Refused}
 use Rattle.format.specs.declared.Lent.{Lent}
 use Rattle.format.specs.declared.Written.the-variants.{Bytes as Wrote, Unwritten}
 use Rattle.format.specs.Reading.{finished, refused, reading}
 use Rattle.format.specs.Step.{State, run, end, begin}
 use Rattle.format.specs.Answers.{read, readOf, readCall, output, writtenOf, writeCall, textCall}
-use Rattle.format.specs.Unfold.{col, home, part}
+use Rattle.format.specs.Unfold.{home, part}
 use Rattle.format.specs.RowTest.{hasText}
 use Rattle.format.specs.Text.{textSpan, textOr}
 use Rattle.format.specs.Writing.{written, unwritten, writing}

@@ -7,7 +7,7 @@ use mathlib.Core.Option.{none, some}
 use Prim.Native.Nat.{ℕ, zero, suc, _+_, _*_, _^_, _<_}
 use lib.Dec.{eqb, lit<}
 use lib.ListN.{getD, take, drop}
-use Rattle.rows.specs.Memory.{Memory, faultOf, rowWidth, colKind, colBodyBegin, colBodySize, colCount, colCount2, colEnd, colNumber, colClassMark}
+use Rattle.rows.specs.Memory.{Memory, faultOf, rowWidth, colKind, colBodyBegin, colBodySize, colCount, colCount2, colEnd, colNumber, colClassMark, rowsIn, col}
 use Rattle.wire.specs.U29.{u29}
 use Rattle.wire.specs.Big.{bytesOf}
 use Rattle.wire.proofs.Octets.{Bytes}
@@ -18,7 +18,7 @@ use Rattle.format.specs.declared.Written.the-variants.{Bytes as Written}
 use Rattle.format.specs.Standard.{null, boolean, Tree, plain, array, object, objectVector, dictionary, textBytes, sizeBytes, nameBytes, flagByte}
 use Rattle.format.specs.Standard.{classBytes, encodePlain, arrayHead, objectHead, vectorHead, dictionaryHead, encode, encodeTrees, encodePairs}
 use Rattle.format.specs.Standard.{encodeValues, encodeDynamic, encodeEntries}
-use Rattle.format.specs.Unfold.{rowsIn, col, part, bodyOf, classText, flagSet, home, after, treesAt, pairsAt, entriesAt, node, treeAt, unfolded}
+use Rattle.format.specs.Unfold.{part, bodyOf, classText, flagSet, home, after, treesAt, pairsAt, entriesAt, node, treeAt, unfolded}
 use Rattle.format.specs.Holds.{canHold}
 use Rattle.format.specs.Reading.{reading}
 use Rattle.format.specs.Writing.{Wrote, written, unwritten, writing}

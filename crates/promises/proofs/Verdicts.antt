@@ -13,7 +13,7 @@ use Rattle.rows.specs.declared.Cursor.{Cursor}
 use Rattle.rows.specs.declared.Span.{Span}
 use Rattle.rows.specs.declared.Key.{Key}
 use Rattle.rows.specs.declared.Trait.{Trait}
-use Rattle.rows.specs.Memory.{Memory, memory, rowWidth, spanWidth, traitWidth, colEnd, cell, rowUsed, spanAt, spanUsed}
+use Rattle.rows.specs.Memory.{Memory, memory, rowWidth, spanWidth, traitWidth, colEnd, col, rowUsed, spanAt, spanUsed}
 use Rattle.wire.specs.declared.Date.{Date}
 use Rattle.wire.specs.declared.Date.the-variants.{Millis, Refused as Undated}
 use Rattle.wire.specs.Date.{dateOf}
@@ -285,8 +285,8 @@ module _ {w : Watch} {c : Cursor} {m : Memory} (h : Sits w c m) where
       (sure-leb (c .objects) i (λ g. stops tt) (λ g.
       let r = getD (m .objects) i 0 in
       sure-out (not (rowUsed (m .rows) c r)) (λ e. f g (λ (u, v). row-unused r (not-true (rowUsed (m .rows) c r) e) u)) (λ e.
-      sure-out (ltb (c .rows) (cell (m .rows) r colEnd)) (λ o. f g (λ (u, v). absurd (let p = ltb-true (c .rows) (cell (m .rows) r colEnd) o in omega arith))) (λ o.
-      sure-cond (eqb (cell (m .rows) r colEnd) 0) (λ p. stops tt)
+      sure-out (ltb (c .rows) (col (m .rows) r colEnd)) (λ o. f g (λ (u, v). absurd (let p = ltb-true (c .rows) (col (m .rows) r colEnd) o in omega arith))) (λ o.
+      sure-cond (eqb (col (m .rows) r colEnd) 0) (λ p. stops tt)
       (λ p. sure-yes (rowUsed (m .rows) c row) (used-row row l) (changed (simp length-set)))))))
 
   -- a marker adds a row

@@ -1,3 +1,3 @@
-pub mod Cells
 pub mod Fill
 pub mod Part
+pub mod RowColumns

@@ -186,48 +186,50 @@ zeroed m = memory (zeros (m .rows)) (zeros (m .store)) (zeros (m .strings)) (zer
 
 -- ---- rows and spans
 
-abbrev pub cell : List ℕ → ℕ → ℕ → ℕ
-cell R row col = getD R (row * rowWidth + col) 0
+-- how many rows there are
+abbrev pub rowsIn : List ℕ → ℕ
+rowsIn R = length R / rowWidth
+
+-- a column of a row; 0 where the row is not lent
+unfoldable pub col : List ℕ → ℕ → ℕ → ℕ
+col R i c = cond (ltb i (rowsIn R)) (getD R (i * rowWidth + c) 0) 0
 
 abbrev pub put : List ℕ → ℕ → ℕ → ℕ → List ℕ
-put R row col v = set R (row * rowWidth + col) v
+put R row c v = set R (row * rowWidth + c) v
 
 -- a row's numbers, in the order of the columns
 abbrev pub rowNumbers : Row → List ℕ
 rowNumbers v =
     v .kind ∷ v .key .mark ∷ v .key .begin ∷ v .key .size ∷ v .body .begin ∷ v .body .size ∷ v .class ∷ v .flag ∷ v .number ∷ v .count ∷ v .count2 ∷ v .end ∷ []
 
--- a whole row, and one column, where the row is lent
+-- a whole row, where it is lent
 unfoldable pub putRow : List ℕ → ℕ → Row → List ℕ
-putRow R row v = cond (ltb row (length R / rowWidth)) (sets R (row * rowWidth) (rowNumbers v)) R
-
-unfoldable pub columnAt : List ℕ → ℕ → ℕ → ℕ
-columnAt R row col = cond (ltb row (length R / rowWidth)) (cond (ltb col rowWidth) (cell R row col) 0) 0
+putRow R row v = cond (ltb row (rowsIn R)) (sets R (row * rowWidth) (rowNumbers v)) R
 
 abbrev pub keyAt : List ℕ → ℕ → Key
-keyAt R row = record { mark = columnAt R row colKeyMark; begin = columnAt R row colKeyBegin; size = columnAt R row colKeySize }
+keyAt R row = record { mark = col R row colKeyMark; begin = col R row colKeyBegin; size = col R row colKeySize }
 
 abbrev pub bodyAt : List ℕ → ℕ → Span
-bodyAt R row = record { begin = columnAt R row colBodyBegin; size = columnAt R row colBodySize }
+bodyAt R row = record { begin = col R row colBodyBegin; size = col R row colBodySize }
 
 -- a whole row, zero where it is not lent
 abbrev pub rowAt : List ℕ → ℕ → Row
 rowAt R row =
     record {
-      kind = columnAt R row colKind;
+      kind = col R row colKind;
       key = keyAt R row;
       body = bodyAt R row;
-      class = columnAt R row colClassMark;
-      flag = columnAt R row colFlag;
-      number = columnAt R row colNumber;
-      count = columnAt R row colCount;
-      count2 = columnAt R row colCount2;
-      end = columnAt R row colEnd;
+      class = col R row colClassMark;
+      flag = col R row colFlag;
+      number = col R row colNumber;
+      count = col R row colCount;
+      count2 = col R row colCount2;
+      end = col R row colEnd;
     }
 
 -- row is used, and lent
 abbrev pub rowUsed : List ℕ → Cursor → ℕ → Bool
-rowUsed R c row = ltb row (c .rows) && leb (c .rows) (length R / rowWidth)
+rowUsed R c row = ltb row (c .rows) && leb (c .rows) (rowsIn R)
 
 abbrev pub span : ℕ → ℕ → Span
 span begin size = record { begin = begin; size = size }

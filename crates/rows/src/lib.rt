@@ -11,7 +11,7 @@ ghost use lib.Dec.{leb, ltb, eqb};
 ghost use lib.ListN.{length};
 ghost use lib.Seq.{sets, slice};
 ghost use Rattle.rows.specs.Memory as m;
-ghost use Rattle.rows.specs.Memory.{atEntry, atExit, rowWidth, loanFault, zeros, putRow, columnAt, keyAt, bodyAt, rowAt, zeroed, noKey, keyOf};
+ghost use Rattle.rows.specs.Memory.{atEntry, atExit, rowWidth, loanFault, zeros, putRow, col, keyAt, bodyAt, rowAt, zeroed, noKey, keyOf};
 ghost use Rattle.rows.specs.Memory.{colKind, colClassMark, colFlag, colNumber, colCount, colCount2, colEnd};
 
 // ---- limits: bytes of a message, values open at once, entries of each loan
@@ -243,13 +243,14 @@ pub fn put_row(rows: &mut [usize], row: usize, v: Row)
     }
 }
 
-// A column of a row, 0 where the row or the column is not there.
-pub fn column(rows: &[usize], row: usize, col: usize) -> usize
-    ensures { λ r. ⌜ r ≡ columnAt (now (rows .entry)) row col ⌝ }
+// A column of a row, 0 where the row is not there.
+pub fn column(rows: &[usize], row: usize, c: usize) -> usize
+    ensures { λ r. ⌜ r ≡ col (now (rows .entry)) row c ⌝ }
 {
     if row < rows.len() / ROW_WIDTH {
-        if col < ROW_WIDTH {
-            return rows[row * ROW_WIDTH + col];
+        let at = row * ROW_WIDTH;
+        if c < rows.len() - at {
+            return rows[at + c];
         }
     }
     0
@@ -281,43 +282,43 @@ pub fn key_of(s: Span) -> Key
 // ---- the columns by name, 0 where the row is not there
 
 pub fn kind_at(rows: &[usize], row: usize) -> usize
-    ensures { λ r. ⌜ r ≡ columnAt (now (rows .entry)) row colKind ⌝ }
+    ensures { λ r. ⌜ r ≡ col (now (rows .entry)) row colKind ⌝ }
 {
     column(rows, row, columns::KIND)
 }
 
 pub fn class_at(rows: &[usize], row: usize) -> usize
-    ensures { λ r. ⌜ r ≡ columnAt (now (rows .entry)) row colClassMark ⌝ }
+    ensures { λ r. ⌜ r ≡ col (now (rows .entry)) row colClassMark ⌝ }
 {
     column(rows, row, columns::CLASS_MARK)
 }
 
 pub fn flag_at(rows: &[usize], row: usize) -> usize
-    ensures { λ r. ⌜ r ≡ columnAt (now (rows .entry)) row colFlag ⌝ }
+    ensures { λ r. ⌜ r ≡ col (now (rows .entry)) row colFlag ⌝ }
 {
     column(rows, row, columns::FLAG)
 }
 
 pub fn number_at(rows: &[usize], row: usize) -> usize
-    ensures { λ r. ⌜ r ≡ columnAt (now (rows .entry)) row colNumber ⌝ }
+    ensures { λ r. ⌜ r ≡ col (now (rows .entry)) row colNumber ⌝ }
 {
     column(rows, row, columns::NUMBER)
 }
 
 pub fn count_at(rows: &[usize], row: usize) -> usize
-    ensures { λ r. ⌜ r ≡ columnAt (now (rows .entry)) row colCount ⌝ }
+    ensures { λ r. ⌜ r ≡ col (now (rows .entry)) row colCount ⌝ }
 {
     column(rows, row, columns::COUNT)
 }
 
 pub fn count2_at(rows: &[usize], row: usize) -> usize
-    ensures { λ r. ⌜ r ≡ columnAt (now (rows .entry)) row colCount2 ⌝ }
+    ensures { λ r. ⌜ r ≡ col (now (rows .entry)) row colCount2 ⌝ }
 {
     column(rows, row, columns::COUNT2)
 }
 
 pub fn end_at(rows: &[usize], row: usize) -> usize
-    ensures { λ r. ⌜ r ≡ columnAt (now (rows .entry)) row colEnd ⌝ }
+    ensures { λ r. ⌜ r ≡ col (now (rows .entry)) row colEnd ⌝ }
 {
     column(rows, row, columns::END)
 }

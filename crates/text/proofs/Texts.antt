@@ -8,15 +8,14 @@ use lib.Dec.{leb}
 use lib.ListN.{length, take, drop, length-drop, drop-of-length-le}
 use lib.Seq.{take-all, take-nil}
 use Rattle.rows.specs.declared.Span.{Span}
-use Rattle.rows.specs.Memory.{columnAt, bodyAt, colKind}
+use Rattle.rows.specs.Memory.{bodyAt, colKind, col}
 use Rattle.format.specs.RowTest.{hasText}
-use Rattle.format.specs.Unfold.{col, part}
+use Rattle.format.specs.Unfold.{part}
 use Rattle.format.specs.Text.{nowhere, found, textIn, textFrom}
 use Rattle.text.specs.Found.{partOr}
 
-module _ (R B : List ℕ) (i : ℕ) {kind : ℕ} (k : kind ≡ columnAt R i colKind) where
+module _ (R B : List ℕ) (i : ℕ) {kind : ℕ} (k : kind ≡ col R i colKind) where
   there : {t : Bool} → t ≡ hasText kind → t ≡ hasText (col R i colKind)
-  unfolding col columnAt
   there h = h ∙ ap hasText k
 
   pub no-text : {t : Bool} → t ≡ hasText kind → t ≡ false → nowhere ≡ textIn R B i
@@ -24,11 +23,9 @@ module _ (R B : List ℕ) (i : ℕ) {kind : ℕ} (k : kind ≡ columnAt R i colK
 
   module _ {s : Span} (b : s ≡ bodyAt R i) {t u : Bool} (h : t ≡ hasText kind) where
     within : u ≡ leb (s .begin + s .size) (length B) → u ≡ leb (col R i 4 + col R i 5) (length B)
-    unfolding col columnAt
     within f = f ∙ ap (λ (s : Span). leb (s .begin + s .size) (length B)) b
 
     pub in-store : t ≡ true → u ≡ leb (s .begin + s .size) (length B) → u ≡ true → found (s .begin) (s .size) ≡ textIn R B i
-    unfolding col columnAt
     in-store e f g = ap (λ (s : Span). found (s .begin) (s .size)) b ∙ sym (simp (sym (there h) ∙ e, sym (within f) ∙ g))
 
     pub past-store : u ≡ leb (s .begin + s .size) (length B) → u ≡ false → nowhere ≡ textIn R B i
@@ -63,9 +60,8 @@ pub part-past : (B default : List ℕ) (begin size : ℕ) (t : Bool) {u : Bool} 
 part-past B default begin size true f g = sym (simp (sym f ∙ g))
 part-past B default begin size false f g = refl
 
-pub text-part : (R B default : List ℕ) (i : ℕ) {kind : ℕ} {s : Span} {t : Bool} → kind ≡ columnAt R i colKind → s ≡ bodyAt R i → t ≡ hasText kind
+pub text-part : (R B default : List ℕ) (i : ℕ) {kind : ℕ} {s : Span} {t : Bool} → kind ≡ col R i colKind → s ≡ bodyAt R i → t ≡ hasText kind
     → partOr B default t (s .begin) (s .size) ≡ textFrom (textIn R B i) B default
-unfolding col columnAt
 text-part R B default i {t = t} k b h =
     ap (λ (s : Span). partOr B default t (s .begin) (s .size)) b
     ∙ ap (λ t. partOr B default t (bodyAt R i .begin) (bodyAt R i .size)) (h ∙ ap hasText k) ∙ by (hasText (col R i colKind) && leb (col R i 4 + col R i 5) (length B))

@@ -8,16 +8,14 @@ use borrow.Author.Tests.{ltb-true, leb-true}
 use lib.Dec.{ltb}
 use lib.ListN.{getD}
 use lib.Signed.{mag}
-use Rattle.rows.specs.Memory.{rowWidth, columnAt, memory, colKind, colNumber, colCount, colCount2, colEnd}
+use Rattle.rows.specs.Memory.{rowWidth, memory, colKind, colNumber, colCount, colCount2, colEnd, rowsIn, col}
 use Rattle.rows.specs.Kinds.{kindInteger, kindDate, kindArray, kindObject, kindObjectVector, kindDictionary}
 use Rattle.wire.specs.Sign.{ofColumn}
-use Rattle.format.specs.Unfold.{rowsIn, col}
 use Rattle.format.specs.RowTest.{hasCount2, children, numberWritable}
 use Rattle.format.proofs.Tested.{Row, tested-rows, walk-long}
 use Rattle.format.proofs.Loans.{lent}
 use Rattle.format.proofs.Unfolded.{column-small}
 use Rattle.writer.specs.Pieces.{Fit, Of, Plainly}
-use Rattle.writer.proofs.Columns.{read}
 use Rattle.rows.specs.Memory.{rowsMost}
 
 -- a row with a kind is there
@@ -39,15 +37,15 @@ module _ {R B : List ℕ} (fit : Fit R B) (j : ℕ) where
   row h = tested-rows R B (fit .rows) .1 j (there R j h)
 
   -- by the kind that the code reads
-  module _ {k : ℕ} (e : k ≡ columnAt R j colKind) where
+  module _ {k : ℕ} (e : k ≡ col R j colKind) where
     kinded : {c : ℕ} → k ≡ c → col R j colKind ≡ c
-    kinded h = read R j colKind (omega arith) e ∙ h
+    kinded h = sym e ∙ h
 
     pub of-kind : {c : ℕ} → k ≡ c → Of c R B j
     of-kind h = record { fit = fit; is = kinded h }
 
     back : {c : ℕ} → col R j colKind ≡ c → k ≡ c
-    back h = sym (read R j colKind (omega arith) e) ∙ h
+    back h = e ∙ h
 
     pub plainly : Others (kindDictionary ∷ kindObjectVector ∷ kindObject ∷ kindArray ∷ []) k → Plainly R B j
     plainly o =
@@ -60,18 +58,18 @@ module _ {R B : List ℕ} (fit : Fit R B) (j : ℕ) where
         }
 
   -- the number of a row of this kind
-  module _ {k n : ℕ} (e : k ≡ columnAt R j colKind) (g : n ≡ columnAt R j colNumber) where
+  module _ {k n : ℕ} (e : k ≡ col R j colKind) (g : n ≡ col R j colNumber) where
     pub integer-small : k ≡ kindInteger → mag (ofColumn n) < 2 ^ 28
     unfolding numberWritable
     integer-small h =
         let i = kinded e h in
-        rw (← read R j colNumber (omega arith) g) (column-small (col R j colNumber) (rw i at (row (omega arith) .number)))
+        rw g (column-small (col R j colNumber) (rw i at (row (omega arith) .number)))
 
     pub date-small : k ≡ kindDate → n ≤ 2 ^ 53
     unfolding numberWritable
     date-small h =
         let i = kinded e h in
-        rw (← read R j colNumber (omega arith) g) (leb-true (col R j colNumber) (2 ^ 53) (rw i at (row (omega arith) .number)))
+        rw g (leb-true (col R j colNumber) (2 ^ 53) (rw i at (row (omega arith) .number)))
 
   -- the values in a row are other rows
   few : 0 < col R j colKind → suc j + children R j ≤ rowsMost
@@ -83,28 +81,25 @@ module _ {R B : List ℕ} (fit : Fit R B) (j : ℕ) where
         lent (memory R B [] [] [] []) (fit .lent) .rows,
       )
 
-module _ {kind : ℕ} {R B : List ℕ} {j : ℕ} (of : Of kind R B j) {n : ℕ} (e : n ≡ columnAt R j colCount) where
-  count : col R j colCount ≡ n
-  count = read R j colCount (omega arith) e
-
+module _ {kind : ℕ} {R B : List ℕ} {j : ℕ} (of : Of kind R B j) {n : ℕ} (e : n ≡ col R j colCount) where
   -- of an array or an object
-  pub two-few : {m : ℕ} → 0 < kind → hasCount2 kind ≡ true → m ≡ columnAt R j colCount2 → suc j + (n + m) ≤ rowsMost
+  pub two-few : {m : ℕ} → 0 < kind → hasCount2 kind ≡ true → m ≡ col R j colCount2 → suc j + (n + m) ≤ rowsMost
   unfolding children
   two-few {m} h t g =
       let i : col R j colKind ≡ kind = of .is in
-      let c : children R j ≡ n + m = rw (i, t, count, read R j colCount2 (omega arith) g) in
+      let c : children R j ≡ n + m = rw (i, t, ← e, ← g) in
       omega (arith, few (of .fit) j (omega arith))
 
   pub vector-few : kind ≡ kindObjectVector → suc j + n ≤ rowsMost
   unfolding children
   vector-few h =
       let i : col R j colKind ≡ kind = of .is in
-      let c : children R j ≡ n = rw (i, h, count) in
+      let c : children R j ≡ n = rw (i, h, ← e) in
       omega (arith, few (of .fit) j (omega arith))
 
   pub dictionary-few : kind ≡ kindDictionary → suc j + 2 * n ≤ rowsMost
   unfolding children
   dictionary-few h =
       let i : col R j colKind ≡ kind = of .is in
-      let c : children R j ≡ 2 * n = rw (i, h, count) in
+      let c : children R j ≡ 2 * n = rw (i, h, ← e) in
       omega (arith, few (of .fit) j (omega arith))

@@ -4,16 +4,15 @@ use mathlib.Core.List.{List}
 use Prim.Native.Nat.{ℕ, zero, suc, _+_, _*_, _<_, _≤_}
 use native.Mathlib.Omega.{arith}
 use native.Mathlib.Numerals.{add-one}
-use Rattle.rows.specs.Memory.{columnAt, colKind, colFlag, colCount, colCount2, colEnd}
+use Rattle.rows.specs.Memory.{colKind, colCount, colCount2, colEnd, rowsIn, col}
 use Rattle.rows.specs.Kinds.{kindArray, kindObject, kindObjectVector, kindDictionary}
 use Rattle.format.specs.Standard.{Tree}
-use Rattle.format.specs.Unfold.{rowsIn, col, home, treesAt, pairsAt, node, treeAt, unfolded}
+use Rattle.format.specs.Unfold.{home, treesAt, pairsAt, node, treeAt, unfolded}
 use Rattle.format.specs.RowTest.{children, tested, fine}
 use Rattle.format.specs.Writing.{Stream, emitTrees, emitPairs, emitDynamic, emitIn, emit}
 use Rattle.format.proofs.Tested.{Formed, tested-rows, Walk, done, next, walk-start, walk-after, home-row, kind-is}
 use Rattle.format.proofs.Levels.{unfolded-node}
 use Rattle.writer.specs.Pieces.{objectHeadAt, vectorHeadAt}
-use Rattle.format.proofs.Columns.{column-is}
 use Rattle.writer.proofs.Lists.{names-same}
 use Rattle.writer.proofs.Nodes.{array-is, object-is, vector-is, dictionary-is, object-head, vector-head}
 use Rattle.rows.specs.Kinds.{kindUndefined, kindNull, kindBoolean, kindInteger, kindDouble, kindString, kindXmlDocument, kindDate, kindXml}
@@ -57,50 +56,41 @@ module _ (R B : List ℕ) (rows : (i : ℕ) → i < rowsIn R → Formed R B i) (
     walk : (c : ℕ) → children R p ≡ c → Walk R p stop (suc p) 0 c
     walk c e = rw e at (walk-start R B rows p h)
 
-    count : n ≡ columnAt R p colCount
-    count = sym (column-is R p colCount (omega arith))
-
-    count2 : m ≡ columnAt R p colCount2
-    count2 = sym (column-is R p colCount2 (omega arith))
-
-    flag : col R p colFlag ≡ columnAt R p colFlag
-    flag = sym (column-is R p colFlag (omega arith))
-
     array-same : col R p colKind ≡ kindArray → emitIn F (node f R B p) ≡ emitIn F (node g R B p)
     unfolding children
     array-same e =
         let w = walk (n + m) (rw e) in
-        array-is R B p f count F count2 e
+        array-is R B p f refl F refl e
         ∙ rw (add-one p, pairs-same p stop n (omega arith) w, trees-same p stop m (omega arith) (walk-after R p stop n (omega arith) w))
-        (sym (rw (add-one p) at (array-is R B p g count F count2 e)))
+        (sym (rw (add-one p) at (array-is R B p g refl F refl e)))
 
     head-same : objectHeadAt f R B p ≡ objectHeadAt g R B p
-    head-same = object-head R B p f count count2 refl ∙ rw (names-same f g R B (p + 1) n) (sym (object-head R B p g count count2 refl))
+    head-same = object-head R B p f refl refl refl ∙ rw (names-same f g R B (p + 1) n) (sym (object-head R B p g refl refl refl))
 
     object-same : col R p colKind ≡ kindObject → emitIn F (node f R B p) ≡ emitIn F (node g R B p)
     unfolding children
     object-same e =
         let w = walk (n + m) (rw e) in
-        object-is R B p f count F count2 e
+        object-is R B p f refl F refl e
         ∙ rw (head-same, add-one p, trees-same p stop n (omega arith) w, dynamic-same p stop m (omega arith) (walk-after R p stop n (omega arith) w))
-        (sym (rw (add-one p) at (object-is R B p g count F count2 e)))
+        (sym (rw (add-one p) at (object-is R B p g refl F refl e)))
 
     vector-same : col R p colKind ≡ kindObjectVector → emitIn F (node f R B p) ≡ emitIn F (node g R B p)
     unfolding children
     vector-same e =
         let w = walk n (rw e) in
-        let v : vectorHeadAt f R B p ≡ vectorHeadAt g R B p = vector-head R B p f count flag ∙ sym (vector-head R B p g count flag) in
-        vector-is R B p f count F e
+        let v : vectorHeadAt f R B p ≡ vectorHeadAt g R B p = vector-head R B p f refl refl ∙ sym (vector-head R B p g refl refl) in
+        vector-is R B p f refl F e
         ∙ rw (v, add-one p, trees-same p stop n (omega arith) w)
-        (sym (rw (add-one p) at (vector-is R B p g count F e)))
+        (sym (rw (add-one p) at (vector-is R B p g refl F e)))
 
     dictionary-same : col R p colKind ≡ kindDictionary → emitIn F (node f R B p) ≡ emitIn F (node g R B p)
     unfolding children
     dictionary-same e =
         let w = walk (2 * n) (rw e) in
-        dictionary-is R B p f count F e flag
+        dictionary-is R B p f refl F e refl
         ∙ rw (add-one p, trees-same p stop (n * 2) (omega arith) w)
-        (sym (rw (add-one p) at (dictionary-is R B p g count F e flag)))
+        (sym (rw (add-one p) at (dictionary-is R B p g refl F e refl)))
 
     node-same : emitIn F (node f R B p) ≡ emitIn F (node g R B p)
     unfolding node

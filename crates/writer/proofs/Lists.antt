@@ -6,9 +6,9 @@ use Prim.Native.Nat.{ℕ, zero, suc, _+_, _*_, _-_, _<_, _≤_}
 use native.Mathlib.Omega.{arith}
 use borrow.Author.Tests.{ne-eqb}
 use lib.Dec.{eqb}
-use Rattle.rows.specs.Memory.{columnAt, colEnd}
+use Rattle.rows.specs.Memory.{colEnd, col}
 use Rattle.format.specs.Standard.{Tree, textBytes, nameBytes, traitWord}
-use Rattle.format.specs.Unfold.{col, keyText, treesAt, pairsAt, entriesAt, treeAt}
+use Rattle.format.specs.Unfold.{keyText, treesAt, pairsAt, entriesAt, treeAt}
 use Rattle.format.specs.Writing.{Stream, done, _then_, these, emitTrees, emitPairs, emitValues, emitDynamic, emitEntries, emit}
 use Rattle.format.proofs.Unfolded.{pairs-count}
 use Rattle.writer.specs.declared.Put.{Put}
@@ -16,7 +16,6 @@ use Rattle.writer.specs.declared.Put.the-variants.{At, Stop}
 use Rattle.writer.specs.Run.{Ran, ran, run}
 use Rattle.writer.specs.Pieces.{valueAt, itemsAt, pairingsAt, namesAt}
 use Rattle.writer.proofs.Streams.{then-stop, then-go, join-stop, join-go}
-use Rattle.writer.proofs.Columns.{read}
 
 -- ---- values in one order, whatever they are members of
 
@@ -88,9 +87,9 @@ module _ (l : ℕ) (dry : Bool) (R B : List ℕ) (k m p : ℕ) (O : List ℕ) {x
     pub items-stop : {P : List ℕ} {a : Put} {n q : ℕ} → 0 < m → ran a P ≡ run dry (valueAt l R B k) p O → a ≡ Stop n q → ran a P ≡ x
     items-stop h e g = then-stop _ _ dry _ _ e g ∙ first-item h
 
-    pub items-more : {P : List ℕ} {a : Put} {q c : ℕ} → 0 < m → ran a P ≡ run dry (valueAt l R B k) p O → a ≡ At q → c ≡ columnAt R k colEnd
+    pub items-more : {P : List ℕ} {a : Put} {q c : ℕ} → 0 < m → ran a P ≡ run dry (valueAt l R B k) p O → a ≡ At q → c ≡ col R k colEnd
         → run dry (itemsAt l R B c (m - 1)) q P ≡ x
-    items-more h e g c = rw (← read R k colEnd (omega arith) c) (then-go _ _ dry _ _ e g refl ∙ first-item h)
+    items-more h e g c = rw c (then-go _ _ dry _ _ e g refl ∙ first-item h)
 
   module _ (I : run dry (pairingsAt l R B k m) p O ≡ x) where
     pub pairs-end : m ≤ 0 → ran (At p) O ≡ x
@@ -109,8 +108,8 @@ module _ (l : ℕ) (dry : Bool) (R B : List ℕ) (k m p : ℕ) (O : List ℕ) {x
         pub pairs-stop : {n q : ℕ} → a ≡ Stop n q → ran a Q ≡ x
         pairs-stop g = then-go _ _ dry _ _ e f (then-stop _ _ dry _ _ v g) ∙ first-pair h
 
-        pub pairs-more : {q c : ℕ} → a ≡ At q → c ≡ columnAt R k colEnd → run dry (pairingsAt l R B c (m - 1)) q Q ≡ x
-        pairs-more g c = rw (← read R k colEnd (omega arith) c) (then-go _ _ dry _ _ e f (then-go _ _ dry _ _ v g refl) ∙ first-pair h)
+        pub pairs-more : {q c : ℕ} → a ≡ At q → c ≡ col R k colEnd → run dry (pairingsAt l R B c (m - 1)) q Q ≡ x
+        pairs-more g c = rw c (then-go _ _ dry _ _ e f (then-go _ _ dry _ _ v g refl) ∙ first-pair h)
 
 module _ (f : ℕ → Tree) (dry : Bool) (R B : List ℕ) (k m p : ℕ) (O : List ℕ) {x : Ran} (I : run dry (these (namesAt f R B k m)) p O ≡ x) where
   pub names-end : m ≤ 0 → ran (At p) O ≡ x
@@ -125,5 +124,5 @@ module _ (f : ℕ → Tree) (dry : Bool) (R B : List ℕ) (k m p : ℕ) (O : Lis
   names-stop h e g = join-stop _ _ dry _ _ e g ∙ first-name h
 
   pub names-more : {P : List ℕ} {a : Put} {q c : ℕ} → 0 < m → ran a P ≡ run dry (these (textBytes (keyText R B k))) p O → a ≡ At q
-      → c ≡ columnAt R k colEnd → run dry (these (namesAt f R B c (m - 1))) q P ≡ x
-  names-more h e g c = rw (← read R k colEnd (omega arith) c) (join-go _ _ dry _ _ e g refl ∙ first-name h)
+      → c ≡ col R k colEnd → run dry (these (namesAt f R B c (m - 1))) q P ≡ x
+  names-more h e g c = rw c (join-go _ _ dry _ _ e g refl ∙ first-name h)

@@ -1,5 +1,5 @@
 -- The bytes of a row that holds no values, by its kind.
-use mathlib.Core.Path.{_≡_, refl, _∙_}
+use mathlib.Core.Path.{_≡_, refl, sym, _∙_}
 use mathlib.Core.Bool.{not}
 use mathlib.Core.List.{List, [], _∷_, _++_}
 use Prim.Native.Nat.{ℕ, _+_, _/_, _^_, _<_, _≤_}
@@ -9,7 +9,7 @@ use lib.IntN.{pos}
 use lib.Ieee.{binary64, ofInt, toBits}
 use lib.ListN.{length}
 use lib.Signed.{mag}
-use Rattle.rows.specs.Memory.{columnAt, colKind, colFlag, colNumber}
+use Rattle.rows.specs.Memory.{colKind, colFlag, colNumber, col}
 use Rattle.rows.specs.Kinds as kinds
 use Rattle.wire.specs.declared.Bits.{Bits}
 use Rattle.wire.specs.declared.Bits.the-variants as bits
@@ -20,12 +20,11 @@ use Rattle.wire.specs.Date.{dateBits}
 use Rattle.wire.proofs.Sign as sign
 use Rattle.wire.proofs.Dates as dates
 use Rattle.format.specs.Standard.{Tree, boolean, integer, double, date, textBytes, sizeBytes, flagByte, encodePlain}
-use Rattle.format.specs.Unfold.{col, bodyOf, node}
+use Rattle.format.specs.Unfold.{bodyOf, node}
 use Rattle.format.specs.Writing.{Stream, these, emitIn}
 use Rattle.format.proofs.Tests.{clash}
 use Rattle.format.proofs.Tested.{kind-is}
 use Rattle.writer.specs.Pieces.{Plainly}
-use Rattle.writer.proofs.Columns.{read}
 use Rattle.writer.proofs.Bounds.{row, Others}
 
 -- ---- numbers
@@ -49,9 +48,9 @@ module _ (n : ℕ) {b : Bits} (g : b ≡ dateBits n) (l : n ≤ 2 ^ 53) where
 
 -- ---- by the kind k
 
-module _ (R B : List ℕ) (j : ℕ) (f : ℕ → Tree) (F : Tree → Stream) {k : ℕ} (e : k ≡ columnAt R j colKind) where
+module _ (R B : List ℕ) (j : ℕ) (f : ℕ → Tree) (F : Tree → Stream) {k : ℕ} (e : k ≡ col R j colKind) where
   kinded : {c : ℕ} → k ≡ c → col R j colKind ≡ c
-  kinded h = read R j colKind (omega arith) e ∙ h
+  kinded h = sym e ∙ h
 
   abbrev here : Stream
   here = emitIn F (node f R B j)
@@ -61,25 +60,22 @@ module _ (R B : List ℕ) (j : ℕ) (f : ℕ → Tree) (F : Tree → Stream) {k 
   undefined-is h = rw (kinded h)
 
   -- those with a number
-  module _ {n : ℕ} (g : n ≡ columnAt R j colNumber) where
-    number : col R j colNumber ≡ n
-    number = read R j colNumber (omega arith) g
-
+  module _ {n : ℕ} (g : n ≡ col R j colNumber) where
     pub boolean-is : k ≡ kinds.kindBoolean → these (encodePlain (boolean (not (eqb n 0)))) ≡ here
     unfolding emitIn node
-    boolean-is h = rw (kinded h, number)
+    boolean-is h = rw (kinded h, ← g)
 
     pub integer-is : k ≡ kinds.kindInteger → these (encodePlain (integer (ofColumn n))) ≡ here
     unfolding emitIn node
-    integer-is h = rw (kinded h, number)
+    integer-is h = rw (kinded h, ← g)
 
     pub double-is : k ≡ kinds.kindDouble → these (encodePlain (double n)) ≡ here
     unfolding emitIn node
-    double-is h = rw (kinded h, number)
+    double-is h = rw (kinded h, ← g)
 
     pub date-is : k ≡ kinds.kindDate → these (encodePlain (date n)) ≡ here
     unfolding emitIn node
-    date-is h = rw (kinded h, number)
+    date-is h = rw (kinded h, ← g)
 
   -- those with a body
   module _ (s : List ℕ) (b : s ≡ bodyOf R B j) where
@@ -99,21 +95,18 @@ module _ (R B : List ℕ) (j : ℕ) (f : ℕ → Tree) (F : Tree → Stream) {k 
     unfolding emitIn node encodePlain
     bytes-is h = rw (kinded h, ← b)
 
-    module _ {w : ℕ} (g : w ≡ columnAt R j colFlag) where
-      flag : col R j colFlag ≡ w
-      flag = read R j colFlag (omega arith) g
-
+    module _ {w : ℕ} (g : w ≡ col R j colFlag) where
       pub ints-is : k ≡ kinds.kindIntVector → these (0x0D ∷ sizeBytes (length s / 4) ++ flagByte (not (eqb w 0)) ∷ s) ≡ here
       unfolding emitIn node encodePlain
-      ints-is h = rw (kinded h, flag, ← b)
+      ints-is h = rw (kinded h, ← g, ← b)
 
       pub uints-is : k ≡ kinds.kindUintVector → these (0x0E ∷ sizeBytes (length s / 4) ++ flagByte (not (eqb w 0)) ∷ s) ≡ here
       unfolding emitIn node encodePlain
-      uints-is h = rw (kinded h, flag, ← b)
+      uints-is h = rw (kinded h, ← g, ← b)
 
       pub doubles-is : k ≡ kinds.kindDoubleVector → these (0x0F ∷ sizeBytes (length s / 8) ++ flagByte (not (eqb w 0)) ∷ s) ≡ here
       unfolding emitIn node encodePlain
-      doubles-is h = rw (kinded h, flag, ← b)
+      doubles-is h = rw (kinded h, ← g, ← b)
 
   -- null, and kinds that there are not
   pub null-is : Plainly R B j → Others

@@ -2,10 +2,10 @@
 use mathlib.Core.Path.{_≡_}
 use mathlib.Core.List.{List}
 use Prim.Native.Nat.{ℕ, _+_}
-use Rattle.rows.specs.Memory.{rowsFault, colKind, colCount, colCount2}
+use Rattle.rows.specs.Memory.{rowsFault, colKind, colCount, colCount2, col}
 use Rattle.rows.specs.Kinds.{kindArray, kindObject, kindObjectVector, kindDictionary}
 use Rattle.format.specs.Standard.{Tree, nameBytes, objectHead, vectorHead}
-use Rattle.format.specs.Unfold.{col, classText, flagSet, after, treesAt, pairsAt, node, treeAt}
+use Rattle.format.specs.Unfold.{classText, flagSet, after, treesAt, pairsAt, node, treeAt}
 use Rattle.format.specs.RowTest.{tested, fine}
 use Rattle.format.specs.Writing.{Stream, emitTrees, emitPairs, emitIn, emit}
 

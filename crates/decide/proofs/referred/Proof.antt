@@ -1,9 +1,9 @@
 -- Made by proofs.py from answers/referred.txt: change that file, not this one.
--- answers aff988d4154f proof e95ab21e03d3
+-- answers 0baa727a7eb9 proof cd3b12b99892
 use native.Mathlib.Omega.{arith}
 use mathlib.Core.Path.{sym, _∙_}
 use denote.Ref.{now}
-use lib.ListN.{length, getD, length-set}
+use lib.ListN.{length, length-set}
 use borrow.Author.Tests.{eq-eqb, ne-eqb, le-leb, lt-leb, lt-ltb, le-ltb, not-true, not-false}
 use Rattle.format.specs.Decide.{referred}
 use Rattle.decide.proofs.Rows.{used-row}
@@ -15,6 +15,7 @@ use Rattle.decide.proofs.referred.Reads as reads
 use Rattle.decide.proofs.referred.Lts as lts
 use Rattle.decide.proofs.lost.Reads as lost-reads
 use Rattle.decide.proofs.refuse.Reads as refuse-reads
+use Rattle.rows.proofs.end_at.Reads as end-at-reads
 use Rattle.rows.proofs.row_used.Reads as row-used-reads
 
 lost-requires : tie.Need-lost-requires
@@ -54,71 +55,18 @@ returns-3 c = rw (
       (c .lost2 .ensures),
 )
 
-mul-end : tie.Need-mul-end
-mul-end c = omega (
-  arith,
-  used-row (length (now (c .before .before .before .before .before .before .before .before .before .args .rows)))
-      (c .before .before .before .before .before .before .before .before .before .args .c .rows) (getD (now
-      (c .before .before .before .before .before .before .before .before .before .args .objects))
-      (c .before .before .before .before .before .before .before .before .before .args .i) 0) (c .before .row-used .ensures) (not-false
-      (c .before .row-used .result) (c .if3 .left)),
-)
-
-add-end : tie.Need-add-end
-add-end c = omega (
-  arith,
-  used-row (length (now (c .before .before .before .before .before .before .before .before .before .args .rows)))
-      (c .before .before .before .before .before .before .before .before .before .args .c .rows) (getD (now
-      (c .before .before .before .before .before .before .before .before .before .args .objects))
-      (c .before .before .before .before .before .before .before .before .before .args .i) 0) (c .before .row-used .ensures) (not-false
-      (c .before .row-used .result) (c .if3 .left)),
-)
-
-mul-end-2 : tie.Need-mul-end-2
-mul-end-2 c = omega (
-  arith,
-  used-row (length (now (c .before .before .before .before .before .before .before .before .before .args .rows)))
-      (c .before .before .before .before .before .before .before .before .before .args .c .rows) (getD (now
-      (c .before .before .before .before .before .before .before .before .before .args .objects))
-      (c .before .before .before .before .before .before .before .before .before .args .i) 0) (c .before .row-used .ensures) (not-false
-      (c .before .row-used .result) (c .if3 .left)),
-)
-
-slice-read-end : tie.Need-slice-read-end
-slice-read-end c = omega (
-  arith,
-  used-row (length (now
-      (c .before .before .before .before .before .before .before .before .before .before .args .rows)))
-      (c .before .before .before .before .before .before .before .before .before .before .args .c .rows) (getD (now
-      (c .before .before .before .before .before .before .before .before .before .before .args .objects))
-      (c .before .before .before .before .before .before .before .before .before .before .args .i) 0) (c .before .before .row-used .ensures) (not-false
-      (c .before .before .row-used .result) (c .before .if3 .left)),
-)
+end-at-requires : tie.Need-end-at-requires
+end-at-requires c κs = search needs
 
 lost-requires-3 : tie.Need-lost-requires-3
 lost-requires-3 c κs = search needs
 
+same-length : tie.Need-same-length
+same-length c = search needs
+
 returns-4 : tie.Need-returns-4
 unfolding referred
 returns-4 c =
-    let b5 = c .before .before .before .before .before in
-    let b7 = b5 .before .before in
-    let b9 = b7 .before .before in
-    rw (
-      le-ltb _ _ (b9 .if1 .left),
-      lt-leb _ _ (b7 .if2 .left),
-      sym (b5 .row-used .ensures) ∙ not-false _
-          (c .before .before .before .before .if3 .left),
-      lt-ltb _ _ (c .before .if4 .taken),
-      stops Unit (c .lost3 .ensures),
-    )
-
-refuse-requires-2 : tie.Need-refuse-requires-2
-refuse-requires-2 c κs = search needs
-
-returns-5 : tie.Need-returns-5
-unfolding referred
-returns-5 c =
     let b5 = c .before .before .before .before .before in
     let b6 = b5 .before in
     let b8 = b6 .before .before in
@@ -127,10 +75,35 @@ returns-5 c =
       le-ltb _ _ (b10 .if1 .left),
       lt-leb _ _ (b8 .if2 .left),
       sym (b6 .row-used .ensures) ∙ not-false _ (b5 .if3 .left),
-      le-ltb _ _
-          (c .before .before .if4 .left),
+      sym
+          (c .before .before .before .end-at .ensures),
+      lt-ltb _ _ (c .before .if4 .taken),
+      stops Unit (c .lost3 .ensures),
+    )
+
+refuse-requires-2 : tie.Need-refuse-requires-2
+refuse-requires-2 c κs = search needs
+
+same-length-2 : tie.Need-same-length-2
+same-length-2 c = search needs
+
+returns-5 : tie.Need-returns-5
+unfolding referred
+returns-5 c =
+    let b6 = c .before .before .before .before .before .before in
+    let b7 = b6 .before in
+    let b9 = b7 .before .before in
+    let b11 = b9 .before .before in
+    rw (
+      le-ltb _ _ (b11 .if1 .left),
+      lt-leb _ _ (b9 .if2 .left),
+      sym (b7 .row-used .ensures) ∙ not-false _ (b6 .if3 .left),
+      sym
+          (c .before .before .before .before .end-at .ensures),
+      le-ltb _ _ (c .before .before .if4 .left),
       eq-eqb _ _ (c .before .if5 .taken),
-      stops Unit (c .refuse2 .ensures),
+      stops Unit
+          (c .refuse2 .ensures),
     )
 
 row-used-requires-2 : tie.Need-row-used-requires-2
@@ -140,9 +113,9 @@ mul-rows : tie.Need-mul-rows
 mul-rows c = omega (
   arith,
   used-row (length (now
-      (c .before .before .before .before .before .before .before .before .before .before .before .before .before .before .before .args .rows)))
-      (c .before .before .before .before .before .before .before .before .before .before .before .before .before .before .before .args .c .rows)
-      (c .before .before .before .before .before .before .before .before .before .before .before .before .before .before .before .args .row)
+      (c .before .before .before .before .before .before .before .before .before .before .before .before .before .before .before .before .args .rows)))
+      (c .before .before .before .before .before .before .before .before .before .before .before .before .before .before .before .before .args .c .rows)
+      (c .before .before .before .before .before .before .before .before .before .before .before .before .before .before .before .before .args .row)
       (c .before .row-used2 .ensures) (c .if6 .taken),
 )
 
@@ -150,9 +123,9 @@ add-rows : tie.Need-add-rows
 add-rows c = omega (
   arith,
   used-row (length (now
-      (c .before .before .before .before .before .before .before .before .before .before .before .before .before .before .before .args .rows)))
-      (c .before .before .before .before .before .before .before .before .before .before .before .before .before .before .before .args .c .rows)
-      (c .before .before .before .before .before .before .before .before .before .before .before .before .before .before .before .args .row)
+      (c .before .before .before .before .before .before .before .before .before .before .before .before .before .before .before .before .args .rows)))
+      (c .before .before .before .before .before .before .before .before .before .before .before .before .before .before .before .before .args .c .rows)
+      (c .before .before .before .before .before .before .before .before .before .before .before .before .before .before .before .before .args .row)
       (c .before .row-used2 .ensures) (c .if6 .taken),
 )
 
@@ -160,9 +133,9 @@ mul-rows-2 : tie.Need-mul-rows-2
 mul-rows-2 c = omega (
   arith,
   used-row (length (now
-      (c .before .before .before .before .before .before .before .before .before .before .before .before .before .before .before .args .rows)))
-      (c .before .before .before .before .before .before .before .before .before .before .before .before .before .before .before .args .c .rows)
-      (c .before .before .before .before .before .before .before .before .before .before .before .before .before .before .before .args .row)
+      (c .before .before .before .before .before .before .before .before .before .before .before .before .before .before .before .before .args .rows)))
+      (c .before .before .before .before .before .before .before .before .before .before .before .before .before .before .before .before .args .c .rows)
+      (c .before .before .before .before .before .before .before .before .before .before .before .before .before .before .before .before .args .row)
       (c .before .row-used2 .ensures) (c .if6 .taken),
 )
 
@@ -170,9 +143,9 @@ slice-write-rows : tie.Need-slice-write-rows
 slice-write-rows c = omega (
   arith,
   used-row (length (now
-      (c .before .before .before .before .before .before .before .before .before .before .before .before .before .before .before .args .rows)))
-      (c .before .before .before .before .before .before .before .before .before .before .before .before .before .before .before .args .c .rows)
-      (c .before .before .before .before .before .before .before .before .before .before .before .before .before .before .before .args .row)
+      (c .before .before .before .before .before .before .before .before .before .before .before .before .before .before .before .before .args .rows)))
+      (c .before .before .before .before .before .before .before .before .before .before .before .before .before .before .before .before .args .c .rows)
+      (c .before .before .before .before .before .before .before .before .before .before .before .before .before .before .before .before .args .row)
       (c .before .row-used2 .ensures) (c .if6 .taken),
 )
 
@@ -180,9 +153,9 @@ mul-rows-3 : tie.Need-mul-rows-3
 mul-rows-3 c = omega (
   arith,
   used-row (length (now
-      (c .before .before .before .before .before .before .before .before .before .before .before .before .before .before .before .args .rows)))
-      (c .before .before .before .before .before .before .before .before .before .before .before .before .before .before .before .args .c .rows)
-      (c .before .before .before .before .before .before .before .before .before .before .before .before .before .before .before .args .row)
+      (c .before .before .before .before .before .before .before .before .before .before .before .before .before .before .before .before .args .rows)))
+      (c .before .before .before .before .before .before .before .before .before .before .before .before .before .before .before .before .args .c .rows)
+      (c .before .before .before .before .before .before .before .before .before .before .before .before .before .before .before .before .args .row)
       (c .before .row-used2 .ensures) (c .if6 .taken),
 )
 
@@ -190,9 +163,9 @@ add-rows-2 : tie.Need-add-rows-2
 add-rows-2 c = omega (
   arith,
   used-row (length (now
-      (c .before .before .before .before .before .before .before .before .before .before .before .before .before .before .before .args .rows)))
-      (c .before .before .before .before .before .before .before .before .before .before .before .before .before .before .before .args .c .rows)
-      (c .before .before .before .before .before .before .before .before .before .before .before .before .before .before .before .args .row)
+      (c .before .before .before .before .before .before .before .before .before .before .before .before .before .before .before .before .args .rows)))
+      (c .before .before .before .before .before .before .before .before .before .before .before .before .before .before .before .before .args .c .rows)
+      (c .before .before .before .before .before .before .before .before .before .before .before .before .before .before .before .before .args .row)
       (c .before .row-used2 .ensures) (c .if6 .taken),
 )
 
@@ -200,9 +173,9 @@ mul-rows-4 : tie.Need-mul-rows-4
 mul-rows-4 c = omega (
   arith,
   used-row (length (now
-      (c .before .before .before .before .before .before .before .before .before .before .before .before .before .before .before .args .rows)))
-      (c .before .before .before .before .before .before .before .before .before .before .before .before .before .before .before .args .c .rows)
-      (c .before .before .before .before .before .before .before .before .before .before .before .before .before .before .before .args .row)
+      (c .before .before .before .before .before .before .before .before .before .before .before .before .before .before .before .before .args .rows)))
+      (c .before .before .before .before .before .before .before .before .before .before .before .before .before .before .before .before .args .c .rows)
+      (c .before .before .before .before .before .before .before .before .before .before .before .before .before .before .before .before .args .row)
       (c .before .row-used2 .ensures) (c .if6 .taken),
 )
 
@@ -210,9 +183,9 @@ slice-write-rows-2 : tie.Need-slice-write-rows-2
 slice-write-rows-2 c = simp length-set (omega (
   arith,
   used-row (length (now
-      (c .before .before .before .before .before .before .before .before .before .before .before .before .before .before .before .args .rows)))
-      (c .before .before .before .before .before .before .before .before .before .before .before .before .before .before .before .args .c .rows)
-      (c .before .before .before .before .before .before .before .before .before .before .before .before .before .before .before .args .row)
+      (c .before .before .before .before .before .before .before .before .before .before .before .before .before .before .before .before .args .rows)))
+      (c .before .before .before .before .before .before .before .before .before .before .before .before .before .before .before .before .args .c .rows)
+      (c .before .before .before .before .before .before .before .before .before .before .before .before .before .before .before .before .args .row)
       (c .before .row-used2 .ensures) (c .if6 .taken),
 ))
 
@@ -220,9 +193,9 @@ mul-rows-5 : tie.Need-mul-rows-5
 mul-rows-5 c = omega (
   arith,
   used-row (length (now
-      (c .before .before .before .before .before .before .before .before .before .before .before .before .before .before .before .args .rows)))
-      (c .before .before .before .before .before .before .before .before .before .before .before .before .before .before .before .args .c .rows)
-      (c .before .before .before .before .before .before .before .before .before .before .before .before .before .before .before .args .row)
+      (c .before .before .before .before .before .before .before .before .before .before .before .before .before .before .before .before .args .rows)))
+      (c .before .before .before .before .before .before .before .before .before .before .before .before .before .before .before .before .args .c .rows)
+      (c .before .before .before .before .before .before .before .before .before .before .before .before .before .before .before .before .args .row)
       (c .before .row-used2 .ensures) (c .if6 .taken),
 )
 
@@ -230,9 +203,9 @@ add-rows-3 : tie.Need-add-rows-3
 add-rows-3 c = omega (
   arith,
   used-row (length (now
-      (c .before .before .before .before .before .before .before .before .before .before .before .before .before .before .before .args .rows)))
-      (c .before .before .before .before .before .before .before .before .before .before .before .before .before .before .before .args .c .rows)
-      (c .before .before .before .before .before .before .before .before .before .before .before .before .before .before .before .args .row)
+      (c .before .before .before .before .before .before .before .before .before .before .before .before .before .before .before .before .args .rows)))
+      (c .before .before .before .before .before .before .before .before .before .before .before .before .before .before .before .before .args .c .rows)
+      (c .before .before .before .before .before .before .before .before .before .before .before .before .before .before .before .before .args .row)
       (c .before .row-used2 .ensures) (c .if6 .taken),
 )
 
@@ -240,9 +213,9 @@ mul-rows-6 : tie.Need-mul-rows-6
 mul-rows-6 c = omega (
   arith,
   used-row (length (now
-      (c .before .before .before .before .before .before .before .before .before .before .before .before .before .before .before .args .rows)))
-      (c .before .before .before .before .before .before .before .before .before .before .before .before .before .before .before .args .c .rows)
-      (c .before .before .before .before .before .before .before .before .before .before .before .before .before .before .before .args .row)
+      (c .before .before .before .before .before .before .before .before .before .before .before .before .before .before .before .before .args .rows)))
+      (c .before .before .before .before .before .before .before .before .before .before .before .before .before .before .before .before .args .c .rows)
+      (c .before .before .before .before .before .before .before .before .before .before .before .before .before .before .before .before .args .row)
       (c .before .row-used2 .ensures) (c .if6 .taken),
 )
 
@@ -250,39 +223,20 @@ slice-write-rows-3 : tie.Need-slice-write-rows-3
 slice-write-rows-3 c = simp length-set (omega (
   arith,
   used-row (length (now
-      (c .before .before .before .before .before .before .before .before .before .before .before .before .before .before .before .args .rows)))
-      (c .before .before .before .before .before .before .before .before .before .before .before .before .before .before .before .args .c .rows)
-      (c .before .before .before .before .before .before .before .before .before .before .before .before .before .before .before .args .row)
+      (c .before .before .before .before .before .before .before .before .before .before .before .before .before .before .before .before .args .rows)))
+      (c .before .before .before .before .before .before .before .before .before .before .before .before .before .before .before .before .args .c .rows)
+      (c .before .before .before .before .before .before .before .before .before .before .before .before .before .before .before .before .args .row)
       (c .before .row-used2 .ensures) (c .if6 .taken),
 ))
 
-same-length : tie.Need-same-length
-same-length c = search needs
+same-length-3 : tie.Need-same-length-3
+same-length-3 c = search needs
 
 returns-6 : tie.Need-returns-6
 unfolding referred
 returns-6 c =
-    let b6 = c .before .before .before .before .before .before in
-    let b7 = b6 .before in
-    let b9 = b7 .before .before in
-    let b11 = b9 .before .before in
-    rw (
-      le-ltb _ _ (b11 .if1 .left),
-      lt-leb _ _ (b9 .if2 .left),
-      sym (b7 .row-used .ensures) ∙ not-false _ (b6 .if3 .left),
-      le-ltb _ _
-          (c .before .before .before .if4 .left),
-      ne-eqb _ _ (c .before .before .if5 .left),
-      sym (c .before .row-used2 .ensures) ∙ c .if6 .taken,
-    )
-
-lost-requires-4 : tie.Need-lost-requires-4
-lost-requires-4 c κs = search needs
-
-returns-7 : tie.Need-returns-7
-unfolding referred
-returns-7 c =
-    let b7 = c .before .before .before .before .before .before .before in
+    let b5 = c .before .before .before .before .before in
+    let b7 = b5 .before .before in
     let b8 = b7 .before in
     let b10 = b8 .before .before in
     let b12 = b10 .before .before in
@@ -290,18 +244,45 @@ returns-7 c =
       le-ltb _ _ (b12 .if1 .left),
       lt-leb _ _ (b10 .if2 .left),
       sym (b8 .row-used .ensures) ∙ not-false _ (b7 .if3 .left),
-      le-ltb _ _
-          (c .before .before .before .before .if4 .left),
+      sym
+          (b5 .end-at .ensures),
+      le-ltb _ _ (c .before .before .before .if4 .left),
+      ne-eqb _ _ (c .before .before .if5 .left),
+      sym
+          (c .before .row-used2 .ensures) ∙ c .if6 .taken,
+    )
+
+lost-requires-4 : tie.Need-lost-requires-4
+lost-requires-4 c κs = search needs
+
+same-length-4 : tie.Need-same-length-4
+same-length-4 c = search needs
+
+returns-7 : tie.Need-returns-7
+unfolding referred
+returns-7 c =
+    let b6 = c .before .before .before .before .before .before in
+    let b8 = b6 .before .before in
+    let b9 = b8 .before in
+    let b11 = b9 .before .before in
+    let b13 = b11 .before .before in
+    rw (
+      le-ltb _ _ (b13 .if1 .left),
+      lt-leb _ _ (b11 .if2 .left),
+      sym (b9 .row-used .ensures) ∙ not-false _ (b8 .if3 .left),
+      sym
+          (b6 .end-at .ensures),
+      le-ltb _ _ (c .before .before .before .before .if4 .left),
       ne-eqb _ _ (c .before .before .before .if5 .left),
-      sym (c .before .before .row-used2 .ensures) ∙
-          c .before .if6 .left,
+      sym
+          (c .before .before .row-used2 .ensures) ∙ c .before .if6 .left,
       stops Unit (c .lost4 .ensures),
     )
 
 pub referred-spec : {M : Type 1} → statement M
 referred-spec =
     tie.close
-    (tie.spec lost-requires returns refuse-requires returns-2 mul-object shared-slice-read-object row-used-requires lost-requires-2 returns-3 mul-end
-    add-end mul-end-2 slice-read-end lost-requires-3 returns-4 refuse-requires-2 returns-5 row-used-requires-2 mul-rows add-rows mul-rows-2
-    slice-write-rows mul-rows-3 add-rows-2 mul-rows-4 slice-write-rows-2 mul-rows-5 add-rows-3 mul-rows-6 slice-write-rows-3 same-length returns-6
-    lost-requires-4 returns-7)
+    (tie.spec lost-requires returns refuse-requires returns-2 mul-object shared-slice-read-object row-used-requires lost-requires-2 returns-3
+    end-at-requires lost-requires-3 same-length returns-4 refuse-requires-2 same-length-2 returns-5 row-used-requires-2 mul-rows add-rows mul-rows-2
+    slice-write-rows mul-rows-3 add-rows-2 mul-rows-4 slice-write-rows-2 mul-rows-5 add-rows-3 mul-rows-6 slice-write-rows-3 same-length-3 returns-6
+    lost-requires-4 same-length-4 returns-7)

@@ -1,5 +1,5 @@
 -- Made by proofs.py from answers/columns_fit.txt: change that file, not this one.
--- answers 67ad9b558d42 proof f00ee4ea4ff3
+-- answers a3bbdba25640 proof fde202c71a11
 use mathlib.Core.Path.{sym, _∙_}
 use borrow.Author.Tests.{le-leb, lt-leb, not-true, not-false}
 use Rattle.format.specs.RowTest.{columnsFit}
@@ -10,12 +10,12 @@ use Rattle.judge.proofs.columns_fit.Tie as tie
 use Rattle.judge.proofs.columns_fit.Reads as reads
 use Rattle.judge.proofs.columns_fit.Lts as lts
 use Rattle.judge.proofs.body_fits.Reads as body-fits-reads
-use Rattle.judge.proofs.cell.Reads as cell-reads
 use Rattle.judge.proofs.has_count.Reads as has-count-reads
 use Rattle.judge.proofs.has_count2.Reads as has-count2-reads
 use Rattle.judge.proofs.has_flag.Reads as has-flag-reads
 use Rattle.judge.proofs.has_number.Reads as has-number-reads
 use Rattle.judge.proofs.meant.Reads as meant-reads
+use Rattle.rows.proofs.column.Reads as column-reads
 
 body-fits-requires : tie.Need-body-fits-requires
 body-fits-requires c κs = search needs
@@ -24,8 +24,8 @@ returns : tie.Need-returns
 unfolding columnsFit bodyFits
 returns c = sym (rw (sym (c .before .body-fits .ensures) ∙ not-true _ (c .if1 .taken)))
 
-cell-requires : tie.Need-cell-requires
-cell-requires c κs = search needs
+column-requires : tie.Need-column-requires
+column-requires c κs = search needs
 
 has-flag-requires : tie.Need-has-flag-requires
 has-flag-requires c κs = search needs
@@ -39,7 +39,7 @@ returns-2 c = sym (rw (
   sym (c .before .before .before .before .before .body-fits .ensures) ∙ not-false _
       (c .before .before .before .before .if1 .left),
   sym (c .before .before .has-flag .ensures),
-  sym (c .before .before .before .cell .ensures),
+  sym (c .before .before .before .column .ensures),
   sym
       (c .before .meant .ensures) ∙ not-true _ (c .if2 .taken),
 ))
@@ -53,7 +53,7 @@ returns-3 c =
       sym (b6 .body-fits .ensures) ∙ not-false _ (b5 .if1 .left),
       sym (c .before .before .before .has-flag .ensures),
       sym
-          (c .before .before .before .before .cell .ensures),
+          (c .before .before .before .before .column .ensures),
       sym (c .before .before .meant .ensures) ∙ not-false _ (c .before .if2 .left),
       lt-leb _ _
           (c .if3 .taken),
@@ -62,8 +62,8 @@ returns-3 c =
 has-number-requires : tie.Need-has-number-requires
 has-number-requires c κs = search needs
 
-cell-requires-2 : tie.Need-cell-requires-2
-cell-requires-2 c κs = search needs
+column-requires-2 : tie.Need-column-requires-2
+column-requires-2 c κs = search needs
 
 meant-requires-2 : tie.Need-meant-requires-2
 meant-requires-2 c κs = search needs
@@ -80,13 +80,13 @@ returns-4 c =
     sym (rw (
       sym (b10 .body-fits .ensures) ∙ not-false _ (b9 .if1 .left),
       sym (b7 .has-flag .ensures),
-      sym (b8 .cell .ensures),
+      sym (b8 .column .ensures),
       sym
           (b6 .meant .ensures) ∙ not-false _ (b5 .if2 .left),
       le-leb _ _ (c .before .before .before .before .if3 .left),
       sym
           (c .before .before .before .has-number .ensures),
-      sym (c .before .before .cell2 .ensures),
+      sym (c .before .before .column2 .ensures),
       sym (c .before .meant2 .ensures) ∙ not-true _
           (c .if4 .taken),
     ))
@@ -94,8 +94,8 @@ returns-4 c =
 has-count-requires : tie.Need-has-count-requires
 has-count-requires c κs = search needs
 
-cell-requires-3 : tie.Need-cell-requires-3
-cell-requires-3 c κs = search needs
+column-requires-3 : tie.Need-column-requires-3
+column-requires-3 c κs = search needs
 
 meant-requires-3 : tie.Need-meant-requires-3
 meant-requires-3 c κs = search needs
@@ -118,23 +118,22 @@ returns-5 c =
       sym (c .before .before .before .has-count .ensures),
       sym
           (b11 .has-flag .ensures),
-      sym (b12 .cell .ensures),
+      sym (b12 .column .ensures),
       sym (b10 .meant .ensures) ∙ not-false _ (b9 .if2 .left),
       le-leb _ _ (b8 .if3 .left),
       sym
           (b7 .has-number .ensures),
-      sym (b6 .cell2 .ensures),
+      sym (b6 .column2 .ensures),
       sym (b5 .meant2 .ensures) ∙ not-false _ (c .before .before .before .before .if4 .left),
-      sym
-          (c .before .before .cell3 .ensures),
+      sym (c .before .before .column3 .ensures),
       sym (c .before .meant3 .ensures) ∙ not-true _ (c .if5 .taken),
     ))
 
 has-count2-requires : tie.Need-has-count2-requires
 has-count2-requires c κs = search needs
 
-cell-requires-4 : tie.Need-cell-requires-4
-cell-requires-4 c κs = search needs
+column-requires-4 : tie.Need-column-requires-4
+column-requires-4 c κs = search needs
 
 meant-requires-4 : tie.Need-meant-requires-4
 meant-requires-4 c κs = search needs
@@ -160,25 +159,24 @@ returns-6 c =
       sym (b6 .has-count .ensures),
       sym (b14 .has-flag .ensures),
       sym
-          (b15 .cell .ensures),
+          (b15 .column .ensures),
       sym (b13 .meant .ensures) ∙ not-false _ (b12 .if2 .left),
       le-leb _ _ (b11 .if3 .left),
       sym (b10 .has-number .ensures),
-      sym
-          (b9 .cell2 .ensures),
+      sym (b9 .column2 .ensures),
       sym (b8 .meant2 .ensures) ∙ not-false _ (b7 .if4 .left),
-      sym (b5 .cell3 .ensures),
+      sym (b5 .column3 .ensures),
       sym
           (c .before .before .before .before .meant3 .ensures) ∙ not-false _ (c .before .before .before .if5 .left),
       sym
           (c .before .before .has-count2 .ensures),
-      sym (c .before .cell4 .ensures),
+      sym (c .before .column4 .ensures),
       sym (c .meant4 .ensures),
     ))
 
 pub columns-fit-spec : {M : Type 1} → statement M
 columns-fit-spec =
     tie.close
-    (tie.spec body-fits-requires returns cell-requires has-flag-requires meant-requires returns-2 returns-3 has-number-requires cell-requires-2
-    meant-requires-2 returns-4 has-count-requires cell-requires-3 meant-requires-3 returns-5 has-count2-requires cell-requires-4 meant-requires-4
-    returns-6)
+    (tie.spec body-fits-requires returns column-requires has-flag-requires meant-requires returns-2 returns-3 has-number-requires column-requires-2
+    meant-requires-2 returns-4 has-count-requires column-requires-3 meant-requires-3 returns-5 has-count2-requires column-requires-4
+    meant-requires-4 returns-6)

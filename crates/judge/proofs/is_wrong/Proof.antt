@@ -1,5 +1,5 @@
 -- Made by proofs.py from answers/is_wrong.txt: change that file, not this one.
--- answers a8e68f3f2399 proof b4d5f6534f8e
+-- answers d09bcbd5c454 proof fbd920784047
 use mathlib.Core.Path.{sym}
 use Rattle.judge.specs.Pass.{isWrong}
 use borrow.Author.Needs.{needs}
@@ -7,20 +7,20 @@ use Rattle.judge.proofs.is_wrong.Statement.{statement}
 use Rattle.judge.proofs.is_wrong.Tie as tie
 use Rattle.judge.proofs.is_wrong.Reads as reads
 use Rattle.judge.proofs.is_wrong.Lts as lts
-use Rattle.judge.proofs.cell.Reads as cell-reads
 use Rattle.judge.proofs.mark_of.Reads as mark-of-reads
+use Rattle.rows.proofs.column.Reads as column-reads
 
-cell-requires : tie.Need-cell-requires
-cell-requires c κs = search needs
+column-requires : tie.Need-column-requires
+column-requires c κs = search needs
 
 mark-of-requires : tie.Need-mark-of-requires
 mark-of-requires c κs = search needs
 
 returns : tie.Need-returns
 unfolding isWrong
-returns c = sym (rw (sym (c .before .cell .ensures), sym (c .mark-of .ensures)))
+returns c = sym (rw (sym (c .before .column .ensures), sym (c .mark-of .ensures)))
 
 pub is-wrong-spec : {M : Type 1} → statement M
 is-wrong-spec =
     tie.close
-    (tie.spec cell-requires mark-of-requires returns)
+    (tie.spec column-requires mark-of-requires returns)

@@ -1,5 +1,5 @@
 -- Made by proofs.py from answers/last_body.txt: change that file, not this one.
--- answers 45a79e16d2d8 proof 44f0f90b3098
+-- answers b191e39ef79b proof d61672d70146
 use mathlib.Core.Path.{sym, _∙_}
 use borrow.Author.Tests.{eq-eqb, ne-eqb}
 use Rattle.judge.specs.Pass.{lastBody}
@@ -8,18 +8,18 @@ use Rattle.judge.proofs.last_body.Statement.{statement}
 use Rattle.judge.proofs.last_body.Tie as tie
 use Rattle.judge.proofs.last_body.Reads as reads
 use Rattle.judge.proofs.last_body.Lts as lts
-use Rattle.judge.proofs.cell.Reads as cell-reads
 use Rattle.judge.proofs.has_class.Reads as has-class-reads
+use Rattle.rows.proofs.column.Reads as column-reads
 use Rattle.text.proofs.has_text.Reads as has-text-reads
 
-cell-requires : tie.Need-cell-requires
-cell-requires c κs = search needs
+column-requires : tie.Need-column-requires
+column-requires c κs = search needs
 
-cell-requires-2 : tie.Need-cell-requires-2
-cell-requires-2 c κs = search needs
+column-requires-2 : tie.Need-column-requires-2
+column-requires-2 c κs = search needs
 
-cell-requires-3 : tie.Need-cell-requires-3
-cell-requires-3 c κs = search needs
+column-requires-3 : tie.Need-column-requires-3
+column-requires-3 c κs = search needs
 
 has-text-requires : tie.Need-has-text-requires
 has-text-requires c κs = search needs
@@ -27,18 +27,18 @@ has-text-requires c κs = search needs
 returns : tie.Need-returns
 unfolding lastBody
 returns c = sym (rw (
-  sym (c .before .before .before .before .cell .ensures),
-  sym (c .before .before .before .cell2 .ensures),
+  sym (c .before .before .before .before .column .ensures),
+  sym (c .before .before .before .column2 .ensures),
   sym
-      (c .before .before .cell3 .ensures),
+      (c .before .before .column3 .ensures),
   sym (c .before .has-text .ensures) ∙ c .if1 .taken,
 ))
 
 has-class-requires : tie.Need-has-class-requires
 has-class-requires c κs = search needs
 
-cell-requires-4 : tie.Need-cell-requires-4
-cell-requires-4 c κs = search needs
+column-requires-4 : tie.Need-column-requires-4
+column-requires-4 c κs = search needs
 
 returns-2 : tie.Need-returns-2
 unfolding lastBody
@@ -48,14 +48,14 @@ returns-2 c =
     let b7 = b6 .before in
     let b8 = b7 .before in
     sym (rw (
-      sym (b8 .cell .ensures),
-      sym (b7 .cell2 .ensures),
-      sym (b6 .cell3 .ensures),
+      sym (b8 .column .ensures),
+      sym (b7 .column2 .ensures),
+      sym (b6 .column3 .ensures),
       sym (b5 .has-text .ensures) ∙
           c .before .before .before .before .if1 .left,
       sym (c .before .before .before .has-class .ensures) ∙ c .before .before .if2 .taken,
       sym
-          (c .before .cell4 .ensures),
+          (c .before .column4 .ensures),
       eq-eqb _ _ (c .if3 .taken),
     ))
 
@@ -67,14 +67,14 @@ returns-3 c =
     let b7 = b6 .before in
     let b8 = b7 .before in
     sym (rw (
-      sym (b8 .cell .ensures),
-      sym (b7 .cell2 .ensures),
-      sym (b6 .cell3 .ensures),
+      sym (b8 .column .ensures),
+      sym (b7 .column2 .ensures),
+      sym (b6 .column3 .ensures),
       sym (b5 .has-text .ensures) ∙
           c .before .before .before .before .if1 .left,
       sym (c .before .before .before .has-class .ensures) ∙ c .before .before .if2 .taken,
       sym
-          (c .before .cell4 .ensures),
+          (c .before .column4 .ensures),
       ne-eqb _ _ (c .if3 .left),
     ))
 
@@ -84,9 +84,9 @@ returns-4 c =
     let b5 = c .before .before .before .before .before in
     let b6 = b5 .before in
     sym (rw (
-      sym (b6 .cell .ensures),
-      sym (b5 .cell2 .ensures),
-      sym (c .before .before .before .before .cell3 .ensures),
+      sym (b6 .column .ensures),
+      sym (b5 .column2 .ensures),
+      sym (c .before .before .before .before .column3 .ensures),
       sym
           (c .before .before .before .has-text .ensures) ∙ c .before .before .if1 .left,
       sym (c .before .has-class .ensures) ∙ c .if2 .left,
@@ -95,5 +95,5 @@ returns-4 c =
 pub last-body-spec : {M : Type 1} → statement M
 last-body-spec =
     tie.close
-    (tie.spec cell-requires cell-requires-2 cell-requires-3 has-text-requires returns has-class-requires cell-requires-4 returns-2 returns-3
+    (tie.spec column-requires column-requires-2 column-requires-3 has-text-requires returns has-class-requires column-requires-4 returns-2 returns-3
     returns-4)

@@ -1,5 +1,5 @@
 -- Made by proofs.py from answers/target_fits.txt: change that file, not this one.
--- answers 3bdc0751d2e5 proof e9e1cbc2b29e
+-- answers 4d258c06c105 proof 551d32140ae1
 use mathlib.Core.Path.{sym}
 use borrow.Author.Tests.{le-leb, lt-leb, lt-ltb, le-ltb}
 use Rattle.judge.specs.Pass.{targetFits}
@@ -8,22 +8,22 @@ use Rattle.judge.proofs.target_fits.Statement.{statement}
 use Rattle.judge.proofs.target_fits.Tie as tie
 use Rattle.judge.proofs.target_fits.Reads as reads
 use Rattle.judge.proofs.target_fits.Lts as lts
-use Rattle.judge.proofs.cell.Reads as cell-reads
 use Rattle.judge.proofs.is_object.Reads as is-object-reads
+use Rattle.rows.proofs.column.Reads as column-reads
 
 returns : tie.Need-returns
 unfolding targetFits
 returns c = sym (rw (le-ltb _ _ (c .if1 .taken)))
 
-cell-requires : tie.Need-cell-requires
-cell-requires c κs = search needs
+column-requires : tie.Need-column-requires
+column-requires c κs = search needs
 
 returns-2 : tie.Need-returns-2
 unfolding targetFits
-returns-2 c = sym (rw (lt-ltb _ _ (c .before .before .if1 .left), sym (c .before .cell .ensures), lt-leb _ _ (c .if2 .taken)))
+returns-2 c = sym (rw (lt-ltb _ _ (c .before .before .if1 .left), sym (c .before .column .ensures), lt-leb _ _ (c .if2 .taken)))
 
-cell-requires-2 : tie.Need-cell-requires-2
-cell-requires-2 c κs = search needs
+column-requires-2 : tie.Need-column-requires-2
+column-requires-2 c κs = search needs
 
 is-object-requires : tie.Need-is-object-requires
 is-object-requires c κs = search needs
@@ -32,14 +32,14 @@ returns-3 : tie.Need-returns-3
 unfolding targetFits
 returns-3 c = sym (rw (
   lt-ltb _ _ (c .before .before .before .before .if1 .left),
-  sym (c .before .before .before .cell .ensures),
+  sym (c .before .before .before .column .ensures),
   le-leb _ _
       (c .before .before .if2 .left),
-  sym (c .before .cell2 .ensures),
+  sym (c .before .column2 .ensures),
   sym (c .is-object .ensures),
 ))
 
 pub target-fits-spec : {M : Type 1} → statement M
 target-fits-spec =
     tie.close
-    (tie.spec returns cell-requires returns-2 cell-requires-2 is-object-requires returns-3)
+    (tie.spec returns column-requires returns-2 column-requires-2 is-object-requires returns-3)

@@ -1,5 +1,5 @@
 -- Made by proofs.py from answers/walk.txt: change that file, not this one.
--- answers b8b966a78acc proof da7537ddea53
+-- answers 2b25363671fa proof 93940d143e92
 use borrow.Author.Needs.{needs}
 use mathlib.Core.Path.{_≡_}
 use Prim.Native.Nat.{_-_}
@@ -9,12 +9,12 @@ use Rattle.judge.proofs.walk.Statement.{statement}
 use Rattle.judge.proofs.walk.Tie as tie
 use Rattle.judge.proofs.walk.Reads as reads
 use Rattle.judge.proofs.walk.Lts as lts
-use Rattle.judge.proofs.cell.Reads as cell-reads
 use Rattle.judge.proofs.children.Reads as children-reads
 use Rattle.judge.proofs.gives.Reads as gives-reads
 use Rattle.judge.proofs.is_empty.Reads as is-empty-reads
 use Rattle.judge.proofs.is_wrong.Reads as is-wrong-reads
 use Rattle.judge.proofs.lower.Reads as lower-reads
+use Rattle.rows.proofs.column.Reads as column-reads
 
 abbrev Inv-loop : tie.InvT-loop
 Inv-loop rows i wrong empty kind count stop n w₀ e₀ k₀ j₀ w e k j = walk rows kind count stop k j (n - j) w e ≡ walkOf rows i wrong empty
@@ -22,14 +22,14 @@ Inv-loop rows i wrong empty kind count stop n w₀ e₀ k₀ j₀ w e k j = walk
 abbrev μ-loop : tie.MeasureT-loop
 μ-loop rows i wrong empty kind count stop n w₀ e₀ k₀ j₀ w e k j = n - j
 
-cell-requires : tie.Need-cell-requires Inv-loop μ-loop
-cell-requires c κs = search needs
+column-requires : tie.Need-column-requires Inv-loop μ-loop
+column-requires c κs = search needs
 
-cell-requires-2 : tie.Need-cell-requires-2 Inv-loop μ-loop
-cell-requires-2 c κs = search needs
+column-requires-2 : tie.Need-column-requires-2 Inv-loop μ-loop
+column-requires-2 c κs = search needs
 
-cell-requires-3 : tie.Need-cell-requires-3 Inv-loop μ-loop
-cell-requires-3 c κs = search needs
+column-requires-3 : tie.Need-column-requires-3 Inv-loop μ-loop
+column-requires-3 c κs = search needs
 
 children-requires : tie.Need-children-requires Inv-loop μ-loop
 children-requires c κs = search needs
@@ -38,19 +38,19 @@ add-k : tie.Need-add-k Inv-loop μ-loop
 add-k c = search needs
 
 loop-holds : tie.Need-loop-holds Inv-loop μ-loop
-loop-holds c = walk-start _ _ _ _ (c .before .before .before .cell .ensures) (c .before .before .cell2 .ensures) (c .before .cell3 .ensures)
+loop-holds c = walk-start _ _ _ _ (c .before .before .before .column .ensures) (c .before .before .column2 .ensures) (c .before .column3 .ensures)
     (c .children .ensures) (c .before .before .before .before .before .pre .1)
 
-cell-requires-4 : tie.Need-cell-requires-4 Inv-loop μ-loop
-cell-requires-4 c κs = search needs
+column-requires-4 : tie.Need-column-requires-4 Inv-loop μ-loop
+column-requires-4 c κs = search needs
 
 returns : tie.Need-returns Inv-loop μ-loop
-returns c = walk-back _ _ _ _ _ _ _ _ _ (c .before .before .before .loop .inv) (c .before .before .loop-test .taken) (c .before .cell4 .ensures)
+returns c = walk-back _ _ _ _ _ _ _ _ _ (c .before .before .before .loop .inv) (c .before .before .loop-test .taken) (c .before .column4 .ensures)
     (c .if1 .taken)
 
 returns-2 : tie.Need-returns-2 Inv-loop μ-loop
 returns-2 c = walk-past _ _ _ _ _ _ _ _ _ (c .before .before .before .before .loop .inv) (c .before .before .before .loop-test .taken)
-    (c .before .before .cell4 .ensures) (c .before .if1 .left) (c .if2 .taken)
+    (c .before .before .column4 .ensures) (c .before .if1 .left) (c .if2 .taken)
 
 gives-requires : tie.Need-gives-requires Inv-loop μ-loop
 gives-requires c κs = search needs
@@ -80,7 +80,7 @@ loop-again c =
     let b7 = b6 .before in
     let b8 = b7 .before in
     let b9 = b8 .before in
-    walk-more _ _ _ _ _ _ _ _ _ (b9 .loop .inv) (b8 .loop-test .taken) (b7 .cell4 .ensures) (b6 .if1 .left) (b5 .if2 .left)
+    walk-more _ _ _ _ _ _ _ _ _ (b9 .loop .inv) (b8 .loop-test .taken) (b7 .column4 .ensures) (b6 .if1 .left) (b5 .if2 .left)
     (c .before .before .before .before .gives .ensures)
     (c .before .before .before .is-wrong .ensures) (c .before .before .lower .ensures) (c .before .is-empty .ensures) (c .lower2 .ensures)
 
@@ -93,5 +93,5 @@ returns-4 c = walk-short _ _ _ _ _ _ _ _ _ (c .before .before .loop .inv) (c .be
 pub walk-spec : {M : Type 1} → statement M
 walk-spec =
     tie.close
-    (tie.spec Inv-loop μ-loop cell-requires cell-requires-2 cell-requires-3 children-requires add-k loop-holds cell-requires-4 returns returns-2
-    gives-requires is-wrong-requires lower-requires is-empty-requires lower-requires-2 add-j loop-less loop-again returns-3 returns-4)
+    (tie.spec Inv-loop μ-loop column-requires column-requires-2 column-requires-3 children-requires add-k loop-holds column-requires-4 returns
+    returns-2 gives-requires is-wrong-requires lower-requires is-empty-requires lower-requires-2 add-j loop-less loop-again returns-3 returns-4)

@@ -1,12 +1,12 @@
 -- Made by proofs.py from answers/put_row.txt: change that file, not this one.
--- answers 35b23bc0215b proof 0d64111ee8a2
+-- answers afb34843de88 proof 6a1621ce6097
 use native.Mathlib.Omega.{arith}
 use mathlib.Core.Path.{sym}
 use denote.Ref.{now}
 use lib.ListN.{length-set}
 use borrow.Author.Tests.{le-ltb}
 use Rattle.rows.specs.Memory.{putRow}
-use Rattle.rows.proofs.Cells.{row-stored}
+use Rattle.rows.proofs.RowColumns.{row-stored}
 use borrow.Author.Needs.{needs}
 use Rattle.rows.proofs.put_row.Statement.{statement}
 use Rattle.rows.proofs.put_row.Tie as tie

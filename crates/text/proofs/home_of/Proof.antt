@@ -1,9 +1,8 @@
 -- Made by proofs.py from answers/home_of.txt: change that file, not this one.
--- answers aa6ec222246a proof cfe2f59f4d73
+-- answers 567b2e93ff37 proof ff1bf1ba6a1e
 use mathlib.Core.Path.{sym, _∙_}
 use borrow.Author.Tests.{eq-eqb, ne-eqb}
-use Rattle.rows.specs.Memory.{columnAt}
-use Rattle.format.specs.Unfold.{home, col}
+use Rattle.format.specs.Unfold.{home}
 use borrow.Author.Needs.{needs}
 use Rattle.text.proofs.home_of.Statement.{statement}
 use Rattle.text.proofs.home_of.Tie as tie
@@ -19,11 +18,11 @@ number-at-requires : tie.Need-number-at-requires
 number-at-requires c κs = search needs
 
 returns : tie.Need-returns
-unfolding home col columnAt
+unfolding home
 returns c = c .number-at .ensures ∙ sym (simp (eq-eqb _ _ (sym (c .before .before .kind-at .ensures) ∙ c .before .if1 .taken)))
 
 returns-2 : tie.Need-returns-2
-unfolding home col columnAt
+unfolding home
 returns-2 c = sym (simp (ne-eqb _ _ (λ e. (c .if1 .left) (c .before .kind-at .ensures ∙ e))))
 
 pub home-of-spec : {M : Type 1} → statement M
