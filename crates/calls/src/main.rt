@@ -4,11 +4,14 @@
 
 use libc::STDOUT_FILENO;
 use pinebuckle::Answer;
+use pinebuckle::Fed;
 use pinebuckle::ROW_WIDTH;
 use pinebuckle::SPAN_WIDTH;
 use pinebuckle::State;
 use pinebuckle::TRAIT_WIDTH;
 use pinebuckle::Written;
+ghost use Rattle.rows.specs.Memory.{atEntry, atExit};
+ghost use Rattle.pinebuckle.specs.Contracts.{BeginContract, FeedContract, EndContract};
 
 // The numbers of the rows of the array and its two strings, of one row more, and one number less.
 const EXACT: usize = 3 * ROW_WIDTH;
@@ -108,7 +111,15 @@ fn say_text<'a>(rows: &'a [usize], store: &'a [u8], row: usize) {
     say(b"\n");
 }
 
-// ---- one call each
+// Prints an answer, and gives the state that comes with it.
+fn told(f: Fed) -> State {
+    let s = f.state;
+    let a = f.answer;
+    say_answer(a);
+    s
+}
+
+// ---- one call each, on a state by value
 
 // Begins a reading, and gives its state.
 fn begin(
@@ -119,11 +130,7 @@ fn begin(
     traits: &mut [usize],
     names: &mut [usize],
 ) -> State {
-    let f = pinebuckle::begun(rows, store, strings, objects, traits, names);
-    let s = f.state;
-    let a = f.answer;
-    say_answer(a);
-    s
+    told(pinebuckle::begun(rows, store, strings, objects, traits, names))
 }
 
 // Feeds a piece, and gives the state after it.
@@ -137,14 +144,10 @@ fn feed(
     names: &mut [usize],
     piece: &[u8],
 ) -> State {
-    let f = pinebuckle::fed_on(s, rows, store, strings, objects, traits, names, piece);
-    let next = f.state;
-    let a = f.answer;
-    say_answer(a);
-    next
+    told(pinebuckle::fed_on(s, rows, store, strings, objects, traits, names, piece))
 }
 
-// Declares the end.
+// Declares the end, and gives the state after it.
 fn end(
     s: State,
     rows: &mut [usize],
@@ -153,11 +156,73 @@ fn end(
     objects: &mut [usize],
     traits: &mut [usize],
     names: &mut [usize],
-) {
-    let f = pinebuckle::ended(s, rows, store, strings, objects, traits, names);
-    let a = f.answer;
-    say_answer(a);
+) -> State {
+    told(pinebuckle::ended(s, rows, store, strings, objects, traits, names))
 }
+
+// ---- one call each, on a state that is lent
+
+// Begins a reading: whatever the state was, it is made anew.
+fn lent_begin(
+    mut state: State,
+    rows: &mut [usize],
+    store: &mut [u8],
+    strings: &mut [usize],
+    objects: &mut [usize],
+    traits: &mut [usize],
+    names: &mut [usize],
+) -> Fed
+    ensures { λ r. ⌜ BeginContract (r .answer) (r .state) (atExit rows store strings objects traits names) (atEntry rows store strings objects traits names) ⌝ }
+{
+    let answer = pinebuckle::begin(&mut state, rows, store, strings, objects, traits, names);
+    Fed { state, answer }
+}
+
+// Feeds a piece.
+fn lent_feed(
+    mut state: State,
+    rows: &mut [usize],
+    store: &mut [u8],
+    strings: &mut [usize],
+    objects: &mut [usize],
+    traits: &mut [usize],
+    names: &mut [usize],
+    piece: &[u8],
+) -> Fed
+    ensures { λ r. ⌜ FeedContract (r .answer) (r .state) (atExit rows store strings objects traits names)
+        state (atEntry rows store strings objects traits names) (now (piece .entry)) ⌝ }
+{
+    let answer = pinebuckle::feed(
+        &mut state,
+        rows,
+        store,
+        strings,
+        objects,
+        traits,
+        names,
+        piece,
+    );
+    Fed { state, answer }
+}
+
+// Declares the end.
+fn lent_end(
+    mut state: State,
+    rows: &mut [usize],
+    store: &mut [u8],
+    strings: &mut [usize],
+    objects: &mut [usize],
+    traits: &mut [usize],
+    names: &mut [usize],
+) -> Fed
+    ensures { λ r. ⌜ EndContract (r .answer) (r .state) (atExit rows store strings objects traits names)
+        state (atEntry rows store strings objects traits names) ⌝ }
+{
+    let answer = pinebuckle::end(&mut state, rows, store, strings, objects, traits, names);
+    Fed { state, answer }
+}
+
+// ---- one call each, without a state
 
 // Reads the array whole.
 fn read(
@@ -197,7 +262,7 @@ fn read_pieces(
     objects: &mut [usize],
     traits: &mut [usize],
     names: &mut [usize],
-) {
+) -> State {
     let begun = begin(rows, store, strings, objects, traits, names);
     let inside = feed(
         begun,
@@ -219,7 +284,41 @@ fn read_pieces(
         names,
         b"a\x06\x00",
     );
-    end(finished, rows, store, strings, objects, traits, names);
+    end(finished, rows, store, strings, objects, traits, names)
+}
+
+// The same with a state that is lent to each call.
+fn read_lent(
+    s: State,
+    rows: &mut [usize],
+    store: &mut [u8],
+    strings: &mut [usize],
+    objects: &mut [usize],
+    traits: &mut [usize],
+    names: &mut [usize],
+) {
+    let begun = told(lent_begin(s, rows, store, strings, objects, traits, names));
+    let inside = told(lent_feed(
+        begun,
+        rows,
+        store,
+        strings,
+        objects,
+        traits,
+        names,
+        b"\x09\x05\x01\x06\x03",
+    ));
+    let finished = told(lent_feed(
+        inside,
+        rows,
+        store,
+        strings,
+        objects,
+        traits,
+        names,
+        b"a\x06\x00",
+    ));
+    told(lent_end(finished, rows, store, strings, objects, traits, names));
 }
 
 // Fewer rows lent than at the beginning are refused with 12, the end of a state that has only begun with 2, and rows of no whole count with 1.
@@ -265,7 +364,16 @@ fn main() {
     let mut objects = [0usize; OBJECTS];
     let mut traits = [0usize; TRAITS];
     let mut names = [0usize; SPANS];
-    read_pieces(
+    let finished = read_pieces(
+        &mut roomy,
+        &mut store,
+        &mut strings,
+        &mut objects,
+        &mut traits,
+        &mut names,
+    );
+    read_lent(
+        finished,
         &mut roomy,
         &mut store,
         &mut strings,
