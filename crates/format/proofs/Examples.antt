@@ -7,7 +7,7 @@ use lib.ListN.{length, replicate}
 use Rattle.rows.specs.declared.Cursor.{Cursor}
 use Rattle.format.specs.declared.Answer.{Answer}
 use Rattle.format.specs.declared.Answer.the-variants.{Waiting, Finished, Refused}
-use Rattle.format.specs.declared.Written.the-variants.{Bytes}
+use Rattle.format.specs.declared.Written.the-variants.{Bytes, Unwritten}
 use Rattle.wire.specs.U29 as u
 use Rattle.wire.specs.Word as w
 use Rattle.wire.specs.Sign as z
@@ -168,7 +168,7 @@ unfolding u.partOf u.groups u.moreOf u.u29 w.sizeOf w.shapeOf z.integerOf z.colu
     ieee.odd ieee.ofFields ieee.ofBits ieee.toUnsigned
 proved = refl
 
--- ---- the others: what waits, two deep messages, and the array of two "a" written
+-- ---- the others: what waits, two deep messages, the array of two "a" written, also where the output is too short, and a dynamic object written
 
 pub data Waits : Type 0 where
   waiting : Cursor → m.Memory → Waits
@@ -201,6 +201,10 @@ pub others :
     × (deeply (again 64 (0x09 ∷ 0x03 ∷ 0x01 ∷ []) (0x01 ∷ [])) ≡ Refused 9 0 193 0)
     × (a.writeCall (joined (row 9 keyless 0 0 0 0 2 3 ∷ row 6 keyless 0 1 0 0 0 2 ∷ row 6 keyless 0 1 0 0 0 3 ∷ [])) (0x61 ∷ []) (replicate 12 7)
     ≡ a.output (Bytes 9) (0x09 ∷ 0x05 ∷ 0x01 ∷ 0x06 ∷ 0x03 ∷ 0x61 ∷ 0x06 ∷ 0x03 ∷ 0x61 ∷ 7 ∷ 7 ∷ 7 ∷ []))
+    × (a.writeCall (joined (row 9 keyless 0 0 0 0 2 3 ∷ row 6 keyless 0 1 0 0 0 2 ∷ row 6 keyless 0 1 0 0 0 3 ∷ [])) (0x61 ∷ []) (replicate 8 7)
+    ≡ a.output (Unwritten 10 7 8) (replicate 8 7))
+    × (a.writeCall (joined (row 10 keyless 0 0 0 0 1 2 ∷ row 4 (1 ∷ 0 ∷ 1 ∷ []) 0 0 1 0 0 2 ∷ [])) (0x61 ∷ []) (replicate 8 7)
+    ≡ a.output (Bytes 8) (0x0A ∷ 0x0B ∷ 0x01 ∷ 0x03 ∷ 0x61 ∷ 0x04 ∷ 0x01 ∷ 0x01 ∷ []))
 unfolding u.partOf u.groups u.moreOf u.u29 w.sizeOf w.shapeOf z.integerOf z.columnOf z.ofColumn n.numberOf n.bytesOf n.digitOf y.finite y.refusedDate y.dateOf o.tells o.sayable
     x.stepOf x.foldOf g.follow g.validText m.messageLimit m.openLimit m.loanFault m.zeroed m.putRow m.col d.kindOf d.newRow d.marker d.closed d.numbered
     d.integerEnd d.dateEnd d.bodied d.classed d.objectClass d.vectorClass d.flagged d.counted d.keyEnd d.grown d.oldText d.reserved d.stored d.judged d.textEnd d.entered
@@ -216,4 +220,4 @@ unfolding u.partOf u.groups u.moreOf u.u29 w.sizeOf w.shapeOf z.integerOf z.colu
     f.wellFormed f.numberWritable f.bodyWritable f.keyWritable f.writable f.testFrom f.tested e._then_ e.these e.streamBytes e.isDeep e.emitTrees e.emitPairs
     e.emitValues e.emitDynamic e.emitEntries e.emitIn e.emit e.settle e.writing a.beginCall a.runHeld a.takenBy a.feedCall a.endCall a.readCall a.writeCall
     ieee.odd ieee.ofFields ieee.ofBits ieee.toUnsigned
-others = (refl, refl, refl, refl)
+others = (refl, refl, refl, refl, refl, refl)

@@ -22,7 +22,7 @@ use Rattle.wire.specs.declared.Shape.the-variants.{Object, Known, External, Inl
 use Rattle.wire.specs.declared.Date.{Date}
 use Rattle.wire.specs.declared.Date.the-variants.{Millis, Refused}
 use Rattle.wire.specs.Word.{sizeOf, shapeOf}
-use Rattle.format.proofs.Own.{follows-is, size-is, object-is}
+use Rattle.meaning.proofs.Own.{follows-is, size-is, object-is}
 use Rattle.wire.specs.Big.{numberOf}
 use Rattle.wire.specs.Date.{dateOf}
 use Rattle.utf8.specs.Grammar.{validText}
@@ -38,11 +38,11 @@ use Rattle.format.specs.Standard.{Tree, plain, array, object, objectVector, dic
 use Rattle.format.specs.Holds.{Room, room, _and_, nothing, aRow, anObject, ofText, ofClass, ofPlain, ofTree, ofTrees, ofPairs, ofSealed, ofEntries}
 use Rattle.format.proofs.Memories.{numbers}
 use Rattle.format.proofs.Alike.{flat}
-use Rattle.format.proofs.Parts.{depth, depthTrees, depthPairs, depthEntries}
-use Rattle.format.proofs.Fuel.{Takes, takes-bind, takes-ret, takes-less, takes-cond, takes-fail, takes-lookup, takes-change, byte-takes, bytes-takes}
-use Rattle.format.proofs.Fuel.{chars-takes, text-takes, names-takes, traits-takes, trees-take, sealed-takes, pairs-take, dynamics-take, entries-take, members-take}
-use Rattle.format.proofs.Fuel.{object-takes, sized-takes, marked-takes, value-takes, opened-takes, object-at-takes}
-use Rattle.format.proofs.Holds.{Fits, Uses, Within, Any, Decides, costless, costs, costs-cond, costs-lift, spent-none, goes-by, in-row}
+use Rattle.meaning.proofs.Parts.{depth, depthTrees, depthPairs, depthEntries}
+use Rattle.meaning.proofs.Fuel.{Takes, takes-bind, takes-ret, takes-less, takes-cond, takes-fail, takes-lookup, takes-change, byte-takes, bytes-takes}
+use Rattle.meaning.proofs.Fuel.{chars-takes, text-takes, names-takes, traits-takes, trees-take, sealed-takes, pairs-take, dynamics-take, entries-take, members-take}
+use Rattle.meaning.proofs.Fuel.{object-takes, sized-takes, marked-takes, value-takes, opened-takes, object-at-takes}
+use Rattle.meaning.proofs.Holds.{Fits, Uses, Within, Any, Decides, costless, costs, costs-cond, costs-lift, spent-none, goes-by, in-row}
 use Rattle.promises.proofs.Fares.{Nice, Paid, noTraits, Gives, gives-bind, gives-then, gives-ret, gives-fail, gives-up, gives-shut, Small, Pays}
 use Rattle.promises.proofs.Fares.{pays-bind, pays-told, pays-ret, pays-made, calm-ret, calm-shut, pays-opened, halts, stays, Spends, pays-free, pays-by}
 use Rattle.promises.proofs.Fares.{pays-flat, pays-end, pays-last, pays-lost, pays-flat-std, pays-less, pays-cursor, pays-void, pays-calm, paid-by, paid-lost}

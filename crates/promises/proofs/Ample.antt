@@ -10,17 +10,17 @@ use Rattle.wire.proofs.Octets.{Bytes}
 use Rattle.format.specs.Reading.{ok, bad, Result, ended, reading, value}
 use Rattle.format.specs.Standard.{Tables, Tree, noTables, standard}
 use Rattle.format.specs.Holds.{ofTree, nothing, canHold}
-use Rattle.format.proofs.Meaning.{reading-means}
-use Rattle.format.proofs.Parts.{depth}
-use Rattle.format.proofs.Size.{holds}
-use Rattle.format.proofs.Fuel.{value-takes}
-use Rattle.format.proofs.Holds.{Fits}
-use Rattle.format.proofs.Finishes.{Unlimited}
+use Rattle.meaning.proofs.Meaning.{reading-means}
+use Rattle.meaning.proofs.Parts.{depth}
+use Rattle.meaning.proofs.Size.{holds}
+use Rattle.meaning.proofs.Fuel.{value-takes}
+use Rattle.meaning.proofs.Holds.{Fits}
+use Rattle.meaning.proofs.Finishes.{Unlimited}
 use Rattle.promises.proofs.Fares.{Small, Nice, Paid}
 use Rattle.promises.proofs.Spends.{Both}
 use Rattle.promises.proofs.Afford.{Deep, pays-value}
 use Rattle.promises.proofs.Brief.{held-brief}
-use Rattle.format.proofs.Trip.{Returns, returns}
+use Rattle.meaning.proofs.Trip.{Returns, returns}
 
 module _ (m : Memory) (bs : List ℕ) (t : Tree) (s : Tables) (p : ℕ) (rest : List ℕ) (says : standard bs ≡ ok t s p rest) (can : canHold m t ≡ true)
     (short : p ≤ messageLimit) where

@@ -27,8 +27,8 @@ use Rattle.format.specs.Standard.{word, chars, textOf, text, opened, shut, fini
 use Rattle.format.specs.Standard.{dynamics, entries, members, objectOf, dated, newOf, sizedOf, marked, value, standard, noTables, starred, leafOf}
 use Rattle.format.specs.Holds.{Room, _and_, ofText, ofClass, ofPlain, ofTree, ofTrees, ofPairs, ofSealed, ofEntries, canHold}
 use Rattle.format.proofs.Loans.{lent}
-use Rattle.format.proofs.Size.{holds}
-use Rattle.format.proofs.Holds.{Within}
+use Rattle.meaning.proofs.Size.{holds}
+use Rattle.meaning.proofs.Holds.{Within}
 use Rattle.promises.proofs.Fares.{All, Gives, noTraits}
 use Rattle.promises.proofs.Spends.{bytes-long}
 use Rattle.promises.proofs.Afford.{sealed-gives, pays-value, namesCost, valuesCost, tree-row, given-room, starred-room, xml-room, vector-room}

@@ -24,7 +24,7 @@ use Rattle.format.proofs.Feeding.{feeding}
 use Rattle.format.proofs.Cuts.{joined, run-over}
 use Rattle.format.proofs.Shows.{shows-run, shows-begin, memory-of}
 use Rattle.format.proofs.Pieces.{answerIn, fedBy, fedPieces, tally, endBy, endRead, unread, feeding-calls}
-use Rattle.format.proofs.Meaning.{never-lost}
+use Rattle.meaning.proofs.Meaning.{never-lost}
 use Rattle.format.proofs.Feeding.{waits-reading}
 use Rattle.format.proofs.Placed.{unknown, absent, unfinished, external, undated, invalid, deep, full, astrays}
 use Rattle.promises.proofs.Stands.{Stands, waits, finishes, faulty, declines, passes, forgets, Any, every-any, Octet, every-byte}

@@ -47,16 +47,16 @@ use Rattle.format.proofs.Cuts as cuts
 use Rattle.format.proofs.Pieces as pieces
 use Rattle.format.proofs.Unique as unique
 use Rattle.format.proofs.Wiped as wiped
-use Rattle.format.proofs.Meaning as meaning
-use Rattle.format.proofs.Finished as tables
-use Rattle.format.proofs.Depth as deeper
-use Rattle.format.proofs.Fuel as fuel
-use Rattle.format.proofs.Writes as writes
+use Rattle.meaning.proofs.Meaning as meaning
+use Rattle.meaning.proofs.Finished as tables
+use Rattle.meaning.proofs.Depth as deeper
+use Rattle.meaning.proofs.Fuel as fuel
+use Rattle.meaning.proofs.Writes as writes
 use Rattle.format.specs.Writable.{Writable}
-use Rattle.format.proofs.Round as round
-use Rattle.format.proofs.Size as size
-use Rattle.format.proofs.Exactly as exactly
-use Rattle.format.proofs.Trip as trip
+use Rattle.meaning.proofs.Round as round
+use Rattle.meaning.proofs.Size as size
+use Rattle.meaning.proofs.Exactly as exactly
+use Rattle.meaning.proofs.Trip as trip
 use Rattle.promises.proofs.Decides as decides
 use Rattle.promises.proofs.Answered as answered
 use Rattle.promises.proofs.Meant as meant

@@ -12,9 +12,9 @@ use Rattle.format.specs.Decide.{Out, stop, give, lost, Decision}
 use Rattle.format.specs.Reading.{ResultOf, ok, bad, Result, Reader, bind, _>>=_, ret, decided, by}
 use Rattle.format.specs.Standard.{Traits, Tables, withObjects, Std, Tree, shut, opened}
 use Rattle.format.specs.Holds.{Room, _and_, nothing}
-use Rattle.format.proofs.Fuel.{Takes, Leaves, Level, leaves-down, takes-bind, takes-ret, shut-takes, opened-takes}
+use Rattle.meaning.proofs.Fuel.{Takes, Leaves, Level, leaves-down, takes-bind, takes-ret, shut-takes, opened-takes}
 use Rattle.format.proofs.Alike.{flat}
-use Rattle.format.proofs.Holds.{Fits, Uses, Within, limit, Good, Goes}
+use Rattle.meaning.proofs.Holds.{Fits, Uses, Within, limit, Good, Goes}
 use Rattle.format.specs.Refusals as refusals
 use Rattle.rows.specs.Memory.{spanWidth, traitWidth}
 

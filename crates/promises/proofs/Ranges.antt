@@ -27,7 +27,7 @@ use Rattle.format.proofs.Along.{Good, waits as waiting, finishes as completed, 
 use Rattle.format.proofs.Feeding.{feeding}
 use Rattle.format.proofs.Shows.{shows-run, shows-begin, good-along, good-waits}
 use Rattle.format.proofs.Pieces.{answerIn}
-use Rattle.format.proofs.Meaning.{never-lost}
+use Rattle.meaning.proofs.Meaning.{never-lost}
 use Rattle.format.proofs.Placed.{RefusedBy, unknown, absent, unfinished, external, undated, invalid, deep, full as fullLoan, astrays}
 use Rattle.promises.proofs.Stands.{Stands, waits, finishes, faulty as faultyLoan, declines, passes, forgets, Octet, every-byte, fault-most}
 use Rattle.promises.proofs.Stands.{stands-begin, stands-run}
@@ -35,7 +35,7 @@ use Rattle.promises.proofs.Counted.{Waits, waits-all}
 use Rattle.promises.proofs.Answered.{answer-of, taken-most, begin-waits, begin-refuses}
 use Rattle.format.specs.Claims.{Named, Lendable, BeginSays, FeedSays, EndSays, ReadSays, WriteRefuses, lends, nests, fills, misshapes, empties, unsuits}
 use Rattle.format.specs.Claims.{WriteSays, readAnswer, writeAnswer}
-use Rattle.format.proofs.Writes.{whole as wholly, full, tooDeep, fullBefore, Outcome, fault, unfit, passed, writes}
+use Rattle.meaning.proofs.Writes.{whole as wholly, full, tooDeep, fullBefore, Outcome, fault, unfit, passed, writes}
 use Rattle.format.specs.Refusals as refusals
 use Rattle.rows.specs.Memory.{loanRows, loanStore, loanNames, loanOutput, rowWidth, rowsMost, storeMost}
 use Rattle.format.specs.Codes.{statusWaiting, statusFinished, statusRefused}

@@ -39,13 +39,13 @@ use Rattle.format.specs.Decide.{oldText, reserved, stored, judged, textEnd, ent
 use Rattle.format.specs.Reading as r
 use Rattle.format.specs.Reading.{ResultOf, Result, ok, bad, bind, _>>=_, ret, Reader, Values, by, decided, taken, Ended, finished, refused, ended, reading}
 use Rattle.format.proofs.Tests.{both, clash}
-use Rattle.format.proofs.Ground.{col-lent}
+use Rattle.meaning.proofs.Ground.{col-lent}
 use Rattle.format.specs.Standard.{Tables, Tree}
 use Rattle.format.proofs.Alike.{Agree}
 use Rattle.format.proofs.Alike as alike
-use Rattle.format.proofs.Tables.{Sim}
-use Rattle.format.proofs.Stage.{Val}
-use Rattle.format.proofs.Meaning.{never-lost, read-alike}
+use Rattle.meaning.proofs.Tables.{Sim}
+use Rattle.meaning.proofs.Stage.{Val}
+use Rattle.meaning.proofs.Meaning.{never-lost, read-alike}
 use Rattle.format.proofs.Memories.{numbers}
 use Rattle.format.specs.Refusals as refusals
 use Rattle.rows.specs.Memory.{loanRows, loanStore, loanStrings, loanObjects, loanTraits, loanNames}

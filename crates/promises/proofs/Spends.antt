@@ -22,7 +22,7 @@ use Rattle.wire.specs.declared.Date.the-variants.{Millis, Refused}
 use Rattle.wire.specs.Big.{digitOf}
 use Rattle.wire.specs.U29.{partOf}
 use Rattle.wire.specs.Word.{sizeOf}
-use Rattle.format.proofs.Own.{size-is}
+use Rattle.meaning.proofs.Own.{size-is}
 use Rattle.wire.specs.Date.{dateOf}
 use Rattle.wire.specs.Sign.{integerOf, columnOf}
 use Rattle.wire.proofs.U29.{Step, step, astray, fourth, last, more}
@@ -38,13 +38,13 @@ use Rattle.format.specs.Standard.{Traits, Tables, Std, fail, lookup, withText}
 use Rattle.format.specs.Holds.{Room, room, _and_, nothing, aRow, ofText}
 use Rattle.format.proofs.Lists.{kept-sets, sets-at}
 use Rattle.format.proofs.Memories.{numbers}
-use Rattle.format.proofs.Changes.{at-end}
-use Rattle.format.proofs.Fuel.{Takes, takes-bind, takes-ret, takes-less, takes-cond, takes-fail, takes-lookup, takes-change, byte-takes, bytes-takes, word-takes}
-use Rattle.format.proofs.Fuel.{text-of-takes}
-use Rattle.format.proofs.Holds.{Fits, Uses, Within, Any}
-use Rattle.format.proofs.Enough.{goes-closed, goes-numbered, goes-date, goes-bodied, goes-class, goes-type, goes-flagged}
-use Rattle.format.proofs.Enough.{goes-counted, goes-key-end, goes-grown, goes-marker, goes-judged, goes-entered, goes-named, goes-stored, goes-reserved}
-use Rattle.format.proofs.Enough.{goes-sealed-key, goes-starred}
+use Rattle.meaning.proofs.Changes.{at-end}
+use Rattle.meaning.proofs.Fuel.{Takes, takes-bind, takes-ret, takes-less, takes-cond, takes-fail, takes-lookup, takes-change, byte-takes, bytes-takes, word-takes}
+use Rattle.meaning.proofs.Fuel.{text-of-takes}
+use Rattle.meaning.proofs.Holds.{Fits, Uses, Within, Any}
+use Rattle.meaning.proofs.Enough.{goes-closed, goes-numbered, goes-date, goes-bodied, goes-class, goes-type, goes-flagged}
+use Rattle.meaning.proofs.Enough.{goes-counted, goes-key-end, goes-grown, goes-marker, goes-judged, goes-entered, goes-named, goes-stored, goes-reserved}
+use Rattle.meaning.proofs.Enough.{goes-sealed-key, goes-starred}
 use Rattle.promises.proofs.Fares.{All, Nice, Paid, noTraits, small-kept, Gives, gives-bind, gives-then, gives-ret, gives-fail, gives-up, Small, Pays, pays-bind, pays-told, pays-ret, pays-made}
 use Rattle.promises.proofs.Fares.{calm-ret, Keeps, halts, stays, Spends, pays-free, pays-by, pays-flat, pays-end, pays-lost, pays-flat-std}
 use Rattle.format.specs.Refusals as refusals

@@ -26,9 +26,9 @@ use Rattle.format.specs.Answers.{beginCall, read, readOf, readCall, output, wri
 use Rattle.format.proofs.Tests.{clash}
 use Rattle.format.proofs.Cuts.{joined}
 use Rattle.format.proofs.Pieces.{fedPieces, tally, endBy, endRead, unread, feeding-calls, taken-calls}
-use Rattle.format.proofs.Writes.{accepted, reported}
-use Rattle.format.proofs.Again.{Wide}
-use Rattle.format.proofs.Trip.{Returns, round-trip}
+use Rattle.meaning.proofs.Writes.{accepted, reported}
+use Rattle.meaning.proofs.Again.{Wide}
+use Rattle.meaning.proofs.Trip.{Returns, round-trip}
 pub use Rattle.format.specs.Claims.{Again}
 
 -- ---- lists of bytes
