@@ -15,6 +15,7 @@ use ghost.Atoms.{Atoms, sem}
 use types.Kit.{Given, ‵, _$_, _∵_, !, qed, move, use1, fsplit, fjoin, fpick, fpack, done}
 use denote.Memory.{mem, cellAt, partOf}
 use denote.Laws.{Is, shows}
+use denote.Ref.{RefT}
 use denote.Slice.{sliceTy}
 use denote.Steps.{owned}
 use denote.Struct.Steps.{spelt}
@@ -28,7 +29,7 @@ use Rattle.feed.proofs.State as S
 use Rattle.feed.proofs.State.Laws as S′
 use Rattle.feed.proofs.Fed as F
 use Rattle.feed.proofs.Fed.Laws as F′
-use Rattle.pinebuckle.proofs.Lends.{value}
+use Rattle.pinebuckle.proofs.Lends.{s, value}
 
 -- ---- machine values
 
@@ -41,7 +42,16 @@ given d = LL.val F.the-type F′.the-laws d
 pub told : (r : Answer) (vs : List Val) → Is N.the-row r vs → vs ≡ N′.the-field-laws .val (N.the-field .into r) ∷ []
 told r vs is = N′.the-field-laws .tells (N.the-field .into r) vs is
 
--- ---- the locals of the six loans
+-- ---- the six loans, and what comes after them: their values, as they are owned and as they are passed, and their locals
+
+abbrev pub Six : Type 0 → Type 0 → Type 0
+Six A X = A × (A × (A × (A × (A × (A × X)))))
+
+abbrev pub slices : {X Y : Type 0} → Six (RefT (List ℕ)) X → Y → Six (List Val) Y
+slices xs rest = (s (xs .0) ∷ [], (s (xs .1 .0) ∷ [], (s (xs .1 .1 .0) ∷ [], (s (xs .1 .1 .1 .0) ∷ [], (s (xs .1 .1 .1 .1 .0) ∷ [], (s (xs .1 .1 .1 .1 .1 .0) ∷ [], rest))))))
+
+abbrev pub passed : {X : Type 0} → Six (RefT (List ℕ)) X → List Val → List Val
+passed xs rest = s (xs .0) ∷ s (xs .1 .0) ∷ s (xs .1 .1 .0) ∷ s (xs .1 .1 .1 .0) ∷ s (xs .1 .1 .1 .1 .0) ∷ s (xs .1 .1 .1 .1 .1 .0) ∷ rest
 
 abbrev loan : ℕ → Width → Local
 loan k w = value (sliceTy (tyRef (named k) mut (tyInt w)))

@@ -1,6 +1,6 @@
-// What each public call answers, from a program over pinebuckle alone. The array of two "a" is read in two pieces and whole, its texts are asked for, and it
-// is written again; loans of wrong lengths and an early end are refused. Each answer is a line of standard output. The state goes by value, through begun,
-// fed_on and ended: a function that lends one, to begin, feed and end, would need a proof by hand.
+// What each public call answers, from a program over pinebuckle alone. The array of two "a" is read in two pieces, by the calls on a state by value
+// (begun, fed_on, ended) and by those on a lent one (begin, feed, end), and whole; its texts are asked for, and it is written again; loans of wrong lengths
+// and an early end are refused. Each answer is a line of standard output. A function that lends a state is proved by hand, so those that do make one call.
 
 use libc::STDOUT_FILENO;
 use pinebuckle::Answer;
@@ -321,6 +321,19 @@ fn read_lent(
     told(lent_end(finished, rows, store, strings, objects, traits, names));
 }
 
+// Both, the second with the state that the first left.
+fn read_twice(
+    rows: &mut [usize],
+    store: &mut [u8],
+    strings: &mut [usize],
+    objects: &mut [usize],
+    traits: &mut [usize],
+    names: &mut [usize],
+) {
+    let s = read_pieces(rows, store, strings, objects, traits, names);
+    read_lent(s, rows, store, strings, objects, traits, names);
+}
+
 // Fewer rows lent than at the beginning are refused with 12, the end of a state that has only begun with 2, and rows of no whole count with 1.
 fn refuse(
     rows: &mut [usize],
@@ -364,16 +377,7 @@ fn main() {
     let mut objects = [0usize; OBJECTS];
     let mut traits = [0usize; TRAITS];
     let mut names = [0usize; SPANS];
-    let finished = read_pieces(
-        &mut roomy,
-        &mut store,
-        &mut strings,
-        &mut objects,
-        &mut traits,
-        &mut names,
-    );
-    read_lent(
-        finished,
+    read_twice(
         &mut roomy,
         &mut store,
         &mut strings,

@@ -19,5 +19,6 @@ unfolding code.routine tablesOf
 lent-end-spec 𝓤 H 𝓜 𝓖 𝓡 =
     entered 𝓤 H (tripleOf 𝓤 H (𝓖 .A) caller.signature (caller.spec 𝓤 H (𝓖 .A) (𝓜 .mem) (𝓡 .run)))
     (tables 𝓤 H 𝓜 𝓡 code.env .C) (tables 𝓤 H 𝓜 𝓡 code.env .Λ) #calls·lent-end code.function (code.unfolded 𝓤 H 𝓜 𝓡)
-    (meets #pinebuckle·end (EndContract) 𝓤 H (𝓖 .A) (givenOf 𝓤 H 𝓜 𝓖) (tablesOf 𝓤 H 𝓜 (tables 𝓤 H 𝓜 𝓡 code.env))
-    (cited 𝓤 H (tripleOf 𝓤 H (𝓖 .A) callee.signature (callee.spec 𝓤 H (𝓖 .A) (𝓜 .mem) (𝓡 .run))) 𝓜 𝓡 code.env #pinebuckle·end callee-def.routine code.calls-pinebuckle·end (callee-thm.met 𝓤 H 𝓜 𝓖 𝓡)))
+    (meets #pinebuckle·end EndContract 𝓤 H (𝓖 .A) (givenOf 𝓤 H 𝓜 𝓖) (tablesOf 𝓤 H 𝓜 (tables 𝓤 H 𝓜 𝓡 code.env))
+    (cited 𝓤 H (tripleOf 𝓤 H (𝓖 .A) callee.signature (callee.spec 𝓤 H (𝓖 .A) (𝓜 .mem) (𝓡 .run)))
+    𝓜 𝓡 code.env #pinebuckle·end callee-def.routine code.calls-pinebuckle·end (callee-thm.met 𝓤 H 𝓜 𝓖 𝓡)))
