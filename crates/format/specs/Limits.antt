@@ -1,14 +1,15 @@
 -- Why a reading is refused by a limit or for want of room, how it ends, and how it and the standard agree.
 use mathlib.Core.Path.{_≡_}
-use mathlib.Core.List.{List, _∷_, _++_}
+use mathlib.Core.List.{List, [], _∷_, _++_}
 use mathlib.Core.Logic.{_≢_}
 use Prim.Native.Nat.{ℕ, zero, suc, _+_, _*_, _/_, _≤_, _<_, _^_}
-use lib.ListN.{length, take}
+use lib.ListN.{length, take, getD}
 use Rattle.rows.specs.declared.Cursor.{Cursor}
 use Rattle.rows.specs.declared.Span.{Span}
 use Rattle.rows.specs.declared.Key.{Key}
+use Rattle.rows.specs.declared.Trait.{Trait}
 use Rattle.rows.specs.Memory.{Memory, openLimit, rowWidth, spanWidth, traitWidth, loanRows, loanStore, loanStrings, loanObjects, loanTraits, loanNames}
-use Rattle.rows.specs.Memory.{messageLimit}
+use Rattle.rows.specs.Memory.{messageLimit, spanAt}
 use Rattle.wire.specs.declared.Part.the-variants.{Whole}
 use Rattle.wire.specs.declared.Size.{Size}
 use Rattle.wire.specs.declared.Size.the-variants.{Old, New}
@@ -18,12 +19,12 @@ use Rattle.wire.specs.U29.{partOf}
 use Rattle.wire.specs.Word.{sizeOf, shapeOf}
 use Rattle.utf8.specs.States.{stepOf}
 use Rattle.format.specs.declared.Frame.{Frame}
-use Rattle.format.specs.Decide.{widthOf, xml, date, array, bytes, raw, objects, dictionary}
+use Rattle.format.specs.Decide.{classOf, traitAt, widthOf, xml, date, array, bytes, raw, objects, dictionary}
 use Rattle.format.specs.Step.{Use, forString, forKey, forClass, forExternal, forName, forVector, tableText, Word, integerWord, objectWord, sizeWord}
 use Rattle.format.specs.Step.{textWord, Mode, atMarker, atWord, atText, wait, run, begin}
 use Rattle.format.specs.Reading.{finished, refused, ResultOf, ok, bad, Ended}
-use Rattle.format.specs.Standard.{Tables, Tree}
-use Rattle.format.specs.Unfold.{unfolded}
+use Rattle.format.specs.Standard.{Traits, Tables, Tree}
+use Rattle.format.specs.Unfold.{part, unfolded}
 use Rattle.format.specs.Claims.{usedRows, usedStore}
 use Rattle.format.specs.Byte.{RefusedBy}
 use Rattle.format.specs.Refusals as no
@@ -138,11 +139,31 @@ pub data ReadingEnds (bs : List ℕ) : Ended → Type 0 where
 
 -- ---- a reading and the standard's
 
+-- a span's text
+abbrev pub spanText : Memory → Span → List ℕ
+spanText m s = part (m .store) (s .begin) (s .size)
+
+-- a trait holds a class, whether its objects are dynamic, and its names
+pub record TraitHeld (m : Memory) (t : Trait) (x : Traits) : Type 0 where
+  pub class : spanText m (classOf t) ≡ x .class
+  pub dynamic : t .dynamic ≡ x .dynamic
+  pub count : t .count ≡ length (x .names)
+  pub names : (i : ℕ) → i < t .count → spanText m (spanAt (m .names) (t .first + i)) ≡ getD (x .names) i []
+
+-- the used strings, objects and traits are the standard's: as many, with these texts and traits
+pub record TablesHeld (c : Cursor) (m : Memory) (s : Tables) : Type 0 where
+  pub strings : c .strings ≡ length (s .texts)
+  pub texts : (i : ℕ) → i < c .strings → spanText m (spanAt (m .strings) i) ≡ getD (s .texts) i []
+  pub objects : c .objects ≡ length (s .objects)
+  pub traits : c .traits ≡ length (s .traits)
+  pub kinds : (i : ℕ) → i < c .traits → TraitHeld m (traitAt (m .traits) i) (getD (s .traits) i (record { class = []; dynamic = 0; names = [] }))
+
 -- how a reading of bs with the loans lent, and the standard's, end
 pub data Accord (lent : Memory) (bs : List ℕ) : Ended → ResultOf Tables ℕ Tree → Type 0 where
-  -- both finish after as many bytes, and the rows that are used unfold to the standard's tree
+  -- both finish after as many bytes, the rows that are used unfold to the standard's tree, and the tables hold the standard's
   reads : {c : Cursor} {m : Memory} {t : Tree} {s : Tables} {rest : List ℕ} → bs ≡ take (c .at) bs ++ rest → c .at ≤ length bs
-      → unfolded (usedRows c m) (usedStore c m) 0 ≡ t → unfolded (usedRows c m) (m .store) 0 ≡ t → Accord lent bs (finished c m) (ok t s (c .at) rest)
+      → unfolded (usedRows c m) (usedStore c m) 0 ≡ t → unfolded (usedRows c m) (m .store) 0 ≡ t → TablesHeld c m s
+      → Accord lent bs (finished c m) (ok t s (c .at) rest)
   -- both refuse alike, by a number of the standard's
   refuses : {n told place : ℕ} {m : Memory} {s : Tables} → no.unexpectedEnd ≤ n → n ≤ no.badText → Accord lent bs (refused n told place m) (bad n told place s)
   -- a limit is met, or a loan is full, and why

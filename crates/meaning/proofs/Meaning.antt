@@ -1,10 +1,10 @@
 -- Demand 2 for reading: a reading means what the standard says, unless a loan or a limit is met; it never loses itself.
 use mathlib.Core.Path.{_≡_, refl, sym, ap, _∙_}
-use mathlib.Core.List.{List, _++_}
+use mathlib.Core.List.{List, [], _∷_, _++_}
 use mathlib.Core.Logic.{_≢_}
-use Prim.Native.Nat.{ℕ, zero, suc, _+_, _*_, _≤_}
+use Prim.Native.Nat.{ℕ, zero, suc, _+_, _*_, _<_, _≤_}
 use native.Mathlib.Omega.{arith}
-use lib.ListN.{length, take, take-append-drop}
+use lib.ListN.{length, take, getD, take-append-drop}
 use lib.Seq.{length-take-le, getD-take}
 use Rattle.rows.specs.declared.Cursor.{Cursor}
 use Rattle.rows.specs.Memory.{Memory, fresh, zeroed, faultOf, rowWidth, openLimit, noKey, rowsIn}
@@ -12,13 +12,13 @@ use Rattle.wire.proofs.Octets.{Bytes}
 use Rattle.format.specs.Reading.{ResultOf, ok, bad, Result, Ended, finished, refused, ended, unlessFault, reading}
 use Rattle.format.specs.Reading as our
 use Rattle.format.specs.Standard.{Tables, Tree, noTables, standard}
-use Rattle.format.specs.Unfold.{unfolded}
+use Rattle.format.specs.Unfold.{part, unfolded}
 use Rattle.format.specs.RowTest.{keyless}
 use Rattle.format.proofs.Tests.{clash}
 use Rattle.format.proofs.Lists.{Kept, part-kept}
 use Rattle.meaning.proofs.Ground.{col-lent, landOf}
 use Rattle.format.proofs.Alike.{Agree, fine, both, ours}
-use Rattle.meaning.proofs.Tables.{Sim}
+use Rattle.meaning.proofs.Tables.{Names, noTraits, Sim}
 use Rattle.meaning.proofs.Rep.{Rep}
 use Rattle.meaning.proofs.Stage.{Val}
 use Rattle.format.proofs.Tested.{formed-of}
@@ -32,6 +32,7 @@ use Rattle.meaning.proofs.Unfolding.{View, rep-unfolds}
 use Rattle.meaning.proofs.Values.{value-alike}
 use Rattle.meaning.proofs.Limits.{Limit, limit-most, limits}
 use Rattle.format.specs.Refusals as refusals
+use Rattle.format.specs.Limits.{TablesHeld}
 pub use Rattle.format.specs.Limits.{Accord, reads, refuses, limited, Kept-to, finishes, stops, meets}
 
 -- ---- what is said of a reading and the standard's
@@ -80,6 +81,30 @@ unfolds {m = m} {c = c} t B s v r l k =
     sym (more-levels R B (λ i h. formed-of R B i (well-formed table i h)) (suc (n² + c .rows)) 0 (table .some) (omega arith))
     ∙ rep-unfolds (landOf m c) R B (view s B l k) t 0 (n² + c .rows) r (omega arith)
 
+-- a name of a trait
+name-held : (B : List ℕ) (u : ℕ) (N : List ℕ) (f : ℕ) (xs : List (List ℕ)) → Names B u N f xs → (i : ℕ) → i < length xs
+    → part B (getD N ((f + i) * 2) 0) (getD N ((f + i) * 2 + 1) 0) ≡ getD xs i []
+name-held B u N f [] h i l = absurd (omega arith)
+name-held B u N f (x ∷ xs) h zero l = let e : f + 0 ≡ f = omega arith in rw e (h .0 .0)
+name-held B u N f (x ∷ xs) h (suc i) l = let e : f + suc i ≡ suc f + i = omega arith in rw e (name-held B u N (suc f) xs (h .1) i (omega arith))
+
+-- the tables that stand for the standard's hold them
+tables-held : {u : ℕ} {m : Memory} {c : Cursor} {s : Tables} → Sim u m c s → TablesHeld c m s
+tables-held {m = m} {s = s} x =
+    record {
+      strings = x .strings .many;
+      texts = λ i l. x .strings .each i l .0;
+      objects = x .objects .many;
+      traits = x .kinds .many;
+      kinds = λ i l. (let k = x .kinds .each i l in
+      record {
+        class = k .class .0;
+        dynamic = k .dynamic;
+        count = k .count;
+        names = λ j h. name-held _ _ _ _ (getD (s .traits) i noTraits .names) (k .names) j (let n = k .count in omega arith);
+      });
+    }
+
 -- by how both end
 accord : (lent : Memory) (bs : List ℕ) (x : Result Unit) (y : ResultOf Tables ℕ Tree) → faultOf lent ≡ 0 → reading lent bs ≡ ended x
     → Post (λ u. stages.Val keyless (zeroed lent) fresh) x → Agree bs (Val (zeroed lent) fresh noKey) x y → Accord lent bs (ended x) y
@@ -90,7 +115,7 @@ accord lent bs x y e q p (fine {m = m} {c = c} {b = t} {bs = rest} l v) =
     let w = finished-val _ c m p refl in
     reads (sym (take-append-drop (c .at) bs) ∙ ap (λ z. take (c .at) bs ++ z) (sym (l .rest))) (l .within)
     (unfolds t (usedStore c m) s w (v .rep) (let e = length-take-le (c .store) (m .store) i in omega arith) (λ j h. getD-take (c .store) (m .store) j 0 h))
-    (unfolds t (m .store) s w (v .rep) i (λ j h. refl))
+    (unfolds t (m .store) s w (v .rep) i (λ j h. refl)) (tables-held s)
 accord lent bs x y e q p (both h i) = refuses h i
 accord lent bs x y e q p (ours {m = m} h i) = limited (limits lent bs (zeroed m) e h i q)
 
@@ -113,7 +138,7 @@ unfolding reading
 never-lost m bs h n told place m′ = by-fault (faultOf m) refl
   where
     met : (e : Ended) (y : ResultOf Tables ℕ Tree) → Accord m bs e y → e ≡ refused n told place m′ → n ≢ refusals.lost
-    met e y (reads p q r s) d = clash cc
+    met e y (reads p q r s u) d = clash cc
     met e y (refuses {n = k} p q) d = let z : k ≡ n = cc in λ w. omega arith
     met e y (limited {n = k} l) d = let z : k ≡ n = cc in let (p, q) = limit-most l in λ w. omega arith
 
@@ -138,7 +163,7 @@ module _ (m : Memory) (bs : List ℕ) (octets : Bytes bs) (accepted : faultOf m 
   finished-means c m′ = met (reading m bs) (standard bs) (reading-means m bs octets accepted)
     where
       met : (e : Ended) (y : ResultOf Tables ℕ Tree) → Accord m bs e y → e ≡ finished c m′ → Understood bs y c m′
-      met e y (reads {c = k} {m = n} {t = t} {s = s} {rest = rest} p q r w) d =
+      met e y (reads {c = k} {m = n} {t = t} {s = s} {rest = rest} p q r w u) d =
           let f : k ≡ c = cc in
           let g : n ≡ m′ = cc in
           record {
@@ -161,7 +186,7 @@ module _ (m : Memory) (bs : List ℕ) (octets : Bytes bs) (accepted : faultOf m 
     where
       met : (e : Ended) (y : ResultOf Tables ℕ Tree) → Accord m bs e y → e ≡ refused n told place m′ → n ≢ refusals.tooDeep → n ≢ refusals.noRoom → n ≢ refusals.tooLong
           → (s : Tables) × (y ≡ bad n told place s)
-      met e y (reads p q r w) d a b c = clash cc
+      met e y (reads p q r w u) d a b c = clash cc
       met e y (refuses {n = k} {told = u} {place = v} {s = s} p q) d a b c =
           let f : k ≡ n = cc in
           let g : u ≡ told = cc in
@@ -174,6 +199,6 @@ module _ (m : Memory) (bs : List ℕ) (octets : Bytes bs) (accepted : faultOf m 
   standard-kept = met (reading m bs) (standard bs) (reading-means m bs octets accepted)
     where
       met : (e : Ended) (y : ResultOf Tables ℕ Tree) → Accord m bs e y → Kept-to m bs e y
-      met e y (reads {c = c} {m = m′} p q r w) = finishes c m′ refl refl r
+      met e y (reads {c = c} {m = m′} p q r w u) = finishes c m′ refl refl r
       met e y (refuses {m = m′} p q) = stops m′ refl
       met e y (limited {n = n} {told = told} {place = place} {m = m′} l) = meets n told place m′ l refl

@@ -40,7 +40,7 @@ is-limit n lo hi =
 
 pub returns : {m₀ : Memory} {bs : List ℕ} {e : Ended} {y : ResultOf Tables ℕ Tree} → Accord m₀ bs e y → Unlimited e
     → (t′ : Tree) (s′ : Tables) (k : ℕ) (rest′ : List ℕ) → y ≡ ok t′ s′ k rest′ → Returns e k t′
-returns (reads {c} {m} {t} {s} {rest} j w u v) free t′ s′ k rest′ q =
+returns (reads {c} {m} {t} {s} {rest} j w u v h) free t′ s′ k rest′ q =
     let a : c .at ≡ k = cc in
     let b : t ≡ t′ = cc in
     record { cursor = c; memory = m; finishes = refl; takes = a; unfolds = v ∙ b }

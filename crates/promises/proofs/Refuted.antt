@@ -122,7 +122,7 @@ module _ (reads : Memory → List ℕ → Ended) (means : (m : Memory) (bytes : 
       of (reads (lent 2) second) (standard second) (means (lent 2) second (h .bits) (h .clean)) e (h .reads)
     where
       of : (x : Ended) (y : ResultOf Tables ℕ Tree) → Accord (lent 2) second x y → x ≡ finished c k → y ≡ ok (held .1 .tree) (held .1 .tables) 15 (held .1 .rest) → ⊥
-      of x y (limits.reads {c = d} a b f g) i j = let n : d ≡ c = cc in let o : d .at ≡ 15 = cc in absurd (omega (arith, ap (λ (z : Cursor). z .at) n, o, q))
+      of x y (limits.reads {c = d} a b f g h) i j = let n : d ≡ c = cc in let o : d .at ≡ 15 = cc in absurd (omega (arith, ap (λ (z : Cursor). z .at) n, o, q))
       of x y (limits.refuses a b) i j = clash cc
       of x y (limits.limited l) i j = clash cc
 
