@@ -1,6 +1,6 @@
-// What each public call answers, from a program over pinebuckle alone. The array of two "a" is read in two pieces, by the calls on a state by value
-// (begun, fed_on, ended) and by those on a lent one (begin, feed, end), and whole; its texts are asked for, and it is written again; loans of wrong lengths
-// and an early end are refused. Each answer is a line of standard output. A function that lends a state is proved by hand, so those that do make one call.
+// What each public call answers, from a program over pinebuckle alone. The array of two "a" is read in two pieces, with a state that is lent to begin, feed
+// and end, and whole; its texts are asked for, and it is written again; loans of wrong lengths and an early end are refused. Each answer is a line of
+// standard output.
 
 use libc::STDOUT_FILENO;
 use pinebuckle::Answer;
@@ -119,48 +119,7 @@ fn told(f: Fed) -> State {
     s
 }
 
-// ---- one call each, on a state by value
-
-// Begins a reading, and gives its state.
-fn begin(
-    rows: &mut [usize],
-    store: &mut [u8],
-    strings: &mut [usize],
-    objects: &mut [usize],
-    traits: &mut [usize],
-    names: &mut [usize],
-) -> State {
-    told(pinebuckle::begun(rows, store, strings, objects, traits, names))
-}
-
-// Feeds a piece, and gives the state after it.
-fn feed(
-    s: State,
-    rows: &mut [usize],
-    store: &mut [u8],
-    strings: &mut [usize],
-    objects: &mut [usize],
-    traits: &mut [usize],
-    names: &mut [usize],
-    piece: &[u8],
-) -> State {
-    told(pinebuckle::fed_on(s, rows, store, strings, objects, traits, names, piece))
-}
-
-// Declares the end, and gives the state after it.
-fn end(
-    s: State,
-    rows: &mut [usize],
-    store: &mut [u8],
-    strings: &mut [usize],
-    objects: &mut [usize],
-    traits: &mut [usize],
-    names: &mut [usize],
-) -> State {
-    told(pinebuckle::ended(s, rows, store, strings, objects, traits, names))
-}
-
-// ---- one call each, on a state that is lent
+// ---- the calls on a state that is lent: proved by hand, so that each function makes one
 
 // Begins a reading: whatever the state was, it is made anew.
 fn lent_begin(
@@ -222,7 +181,59 @@ fn lent_end(
     Fed { state, answer }
 }
 
-// ---- one call each, without a state
+// ---- one call each, and its answer printed
+
+// The state of a reading that has only begun, by value.
+fn fresh(
+    rows: &mut [usize],
+    store: &mut [u8],
+    strings: &mut [usize],
+    objects: &mut [usize],
+    traits: &mut [usize],
+    names: &mut [usize],
+) -> State {
+    told(pinebuckle::begun(rows, store, strings, objects, traits, names))
+}
+
+// Begins a reading, and gives its state.
+fn begin(
+    s: State,
+    rows: &mut [usize],
+    store: &mut [u8],
+    strings: &mut [usize],
+    objects: &mut [usize],
+    traits: &mut [usize],
+    names: &mut [usize],
+) -> State {
+    told(lent_begin(s, rows, store, strings, objects, traits, names))
+}
+
+// Feeds a piece, and gives the state after it.
+fn feed(
+    s: State,
+    rows: &mut [usize],
+    store: &mut [u8],
+    strings: &mut [usize],
+    objects: &mut [usize],
+    traits: &mut [usize],
+    names: &mut [usize],
+    piece: &[u8],
+) -> State {
+    told(lent_feed(s, rows, store, strings, objects, traits, names, piece))
+}
+
+// Declares the end, and gives the state after it.
+fn end(
+    s: State,
+    rows: &mut [usize],
+    store: &mut [u8],
+    strings: &mut [usize],
+    objects: &mut [usize],
+    traits: &mut [usize],
+    names: &mut [usize],
+) -> State {
+    told(lent_end(s, rows, store, strings, objects, traits, names))
+}
 
 // Reads the array whole.
 fn read(
@@ -263,7 +274,8 @@ fn read_pieces(
     traits: &mut [usize],
     names: &mut [usize],
 ) -> State {
-    let begun = begin(rows, store, strings, objects, traits, names);
+    let first = fresh(rows, store, strings, objects, traits, names);
+    let begun = begin(first, rows, store, strings, objects, traits, names);
     let inside = feed(
         begun,
         rows,
@@ -287,55 +299,9 @@ fn read_pieces(
     end(finished, rows, store, strings, objects, traits, names)
 }
 
-// The same with a state that is lent to each call.
-fn read_lent(
-    s: State,
-    rows: &mut [usize],
-    store: &mut [u8],
-    strings: &mut [usize],
-    objects: &mut [usize],
-    traits: &mut [usize],
-    names: &mut [usize],
-) {
-    let begun = told(lent_begin(s, rows, store, strings, objects, traits, names));
-    let inside = told(lent_feed(
-        begun,
-        rows,
-        store,
-        strings,
-        objects,
-        traits,
-        names,
-        b"\x09\x05\x01\x06\x03",
-    ));
-    let finished = told(lent_feed(
-        inside,
-        rows,
-        store,
-        strings,
-        objects,
-        traits,
-        names,
-        b"a\x06\x00",
-    ));
-    told(lent_end(finished, rows, store, strings, objects, traits, names));
-}
-
-// Both, the second with the state that the first left.
-fn read_twice(
-    rows: &mut [usize],
-    store: &mut [u8],
-    strings: &mut [usize],
-    objects: &mut [usize],
-    traits: &mut [usize],
-    names: &mut [usize],
-) {
-    let s = read_pieces(rows, store, strings, objects, traits, names);
-    read_lent(s, rows, store, strings, objects, traits, names);
-}
-
 // Fewer rows lent than at the beginning are refused with 12, the end of a state that has only begun with 2, and rows of no whole count with 1.
 fn refuse(
+    s: State,
     rows: &mut [usize],
     fewer: &mut [usize],
     uneven: &mut [usize],
@@ -345,7 +311,7 @@ fn refuse(
     traits: &mut [usize],
     names: &mut [usize],
 ) {
-    let begun = begin(rows, store, strings, objects, traits, names);
+    let begun = begin(s, rows, store, strings, objects, traits, names);
     feed(
         begun,
         fewer,
@@ -377,7 +343,7 @@ fn main() {
     let mut objects = [0usize; OBJECTS];
     let mut traits = [0usize; TRAITS];
     let mut names = [0usize; SPANS];
-    read_twice(
+    let s = read_pieces(
         &mut roomy,
         &mut store,
         &mut strings,
@@ -386,6 +352,7 @@ fn main() {
         &mut names,
     );
     refuse(
+        s,
         &mut roomy,
         &mut exact,
         &mut uneven,
