@@ -8,8 +8,9 @@ use Prim.Native.Nat.{ℕ, _+_, _≤_, _*_, _^_, _<_, _-_}
 use lib.Dec.{eqb, T}
 use lib.ListN.{length, replicate, take, getD}
 use Rattle.rows.specs.Memory.{memory, Memory, zeroed, fresh, messageLimit, noKey, loanNames, messageMost, loanRows, colKind, colNumber, rowWidth}
-use Rattle.rows.specs.Memory.{spanWidth, traitWidth, loanStore, loanStrings, loanObjects, loanTraits, rowsMost, storeMost, loanOutput, col}
+use Rattle.rows.specs.Memory.{spanWidth, traitWidth, loanStore, loanStrings, loanObjects, loanTraits, rowsMost, storeMost, loanOutput, col, colKeyMark, colKeyBegin, colKeySize, colBodyBegin}
 use Rattle.rows.specs.declared.Cursor.{Cursor}
+use Rattle.rows.specs.declared.Key.{Key}
 use Rattle.rows.specs.Kinds.{kindDate, kindString, kindXmlDocument, kindXml}
 use Rattle.wire.specs.Octets.{Bytes}
 use Rattle.format.specs.Reading.{Ended, reading, finished, refused, taken}
@@ -200,6 +201,16 @@ pub data Feeds (p : ℕ) (piece : List ℕ) : Answer → Type 0 where
   awaits : {k : ℕ} → k ≡ length piece → Feeds p piece (Waiting k)
   completes : {rows bytes k : ℕ} → k ≤ length piece → Feeds p piece (Finished rows bytes k)
   rejects : {n told place k : ℕ} → k ≤ length piece → Refuses piece (p + k) n told place → Feeds p piece (Refused n told place k)
+
+-- ---- rows
+
+-- row i has just appeared: it shows its kind and its key, and nothing else
+pub record RowNew (R : List ℕ) (i kind : ℕ) (k : Key) : Type 0 where
+  pub shows : col R i colKind ≡ kind
+  pub mark : col R i colKeyMark ≡ k .mark
+  pub begin : col R i colKeyBegin ≡ k .begin
+  pub size : col R i colKeySize ≡ k .size
+  pub rest : (j : ℕ) → colBodyBegin ≤ j → j < rowWidth → col R i j ≡ 0
 
 -- ---- text
 

@@ -1,6 +1,5 @@
 -- How a writing ends: the pieces of a tree, how deep it nests, and what each answer of write says of it.
 use mathlib.Core.Path.{_≡_}
-use mathlib.Core.Bool.{true, false}
 use mathlib.Core.List.{List, [], _∷_, _++_}
 use Prim.Native.Nat.{ℕ, suc, max, zero, _<_, _≤_}
 use lib.ListN.{length, drop}
@@ -9,7 +8,8 @@ use Rattle.format.specs.Standard.{Tree, plain, array, object, objectVect
 use Rattle.format.specs.Standard.{entry, textBytes, encodePlain, arrayHead, objectHead, vectorHead, dictionaryHead, encode}
 use Rattle.format.specs.Writing.{Wrote, written, unwritten}
 use Rattle.format.specs.Unfold.{unfolded}
-use Rattle.format.specs.RowTest.{wellFormed, writable, Tested, fine, faulty, tested}
+use Rattle.format.specs.RowTest.{Tested, fine, faulty, tested}
+use Rattle.format.specs.Faults.{Malformed, Unwritable}
 use Rattle.format.specs.Refusals as no
 
 -- ---- what the bytes of a value are made of, in order: bytes of its own, and the values in it
@@ -87,7 +87,7 @@ Nested (suc n) t u x = Among (Nested n) (parts t) u x
 
 -- a row passes 13 and 14, and so do all before row i
 abbrev pub RowPasses : List ℕ → List ℕ → ℕ → Type 0
-RowPasses R B i = (wellFormed R B i ≡ true) × (writable R B i ≡ true)
+RowPasses R B i = (Malformed R B i → ⊥) × (Unwritable R B i → ⊥)
 
 abbrev pub AllPass : List ℕ → List ℕ → ℕ → Type 0
 AllPass R B i = (j : ℕ) → j < i → RowPasses R B j
@@ -96,8 +96,8 @@ AllPass R B i = (j : ℕ) → j < i → RowPasses R B j
 pub data TestSays (R B : List ℕ) : Tested → Type 0 where
   allPass : 0 < rowsIn R → AllPass R B (rowsIn R) → TestSays R B fine
   noRows : rowsIn R ≡ 0 → TestSays R B (faulty no.malformed 0)
-  firstMalformed : {i : ℕ} → i < rowsIn R → AllPass R B i → wellFormed R B i ≡ false → TestSays R B (faulty no.malformed i)
-  firstUnwritable : {i : ℕ} → i < rowsIn R → AllPass R B i → wellFormed R B i ≡ true → writable R B i ≡ false → TestSays R B (faulty no.unwritable i)
+  firstMalformed : {i : ℕ} → i < rowsIn R → AllPass R B i → Malformed R B i → TestSays R B (faulty no.malformed i)
+  firstUnwritable : {i : ℕ} → i < rowsIn R → AllPass R B i → (Malformed R B i → ⊥) → Unwritable R B i → TestSays R B (faulty no.unwritable i)
 
 -- ---- how a writing ends
 

@@ -20,4 +20,5 @@ pub mod Limits
 pub mod Together
 pub mod Strays
 pub mod Meant
+pub mod Faults
 pub mod Endings

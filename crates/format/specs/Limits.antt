@@ -150,10 +150,11 @@ pub record TraitHeld (m : Memory) (t : Trait) (x : Traits) : Type 0 where
   pub count : t .count ≡ length (x .names)
   pub names : (i : ℕ) → i < t .count → spanText m (spanAt (m .names) (t .first + i)) ≡ getD (x .names) i []
 
--- the used strings, objects and traits are the standard's: as many, with these texts and traits
+-- the used strings, objects and traits are the standard's: as many, with these texts, which lie in the used store, and these traits
 pub record TablesHeld (c : Cursor) (m : Memory) (s : Tables) : Type 0 where
   pub strings : c .strings ≡ length (s .texts)
   pub texts : (i : ℕ) → i < c .strings → spanText m (spanAt (m .strings) i) ≡ getD (s .texts) i []
+  pub within : (i : ℕ) → i < c .strings → spanAt (m .strings) i .begin + spanAt (m .strings) i .size ≤ c .store
   pub objects : c .objects ≡ length (s .objects)
   pub traits : c .traits ≡ length (s .traits)
   pub kinds : (i : ℕ) → i < c .traits → TraitHeld m (traitAt (m .traits) i) (getD (s .traits) i (record { class = []; dynamic = 0; names = [] }))

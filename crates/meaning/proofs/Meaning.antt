@@ -94,15 +94,16 @@ tables-held {m = m} {s = s} x =
     record {
       strings = x .strings .many;
       texts = λ i l. x .strings .each i l .0;
+      within = λ i l. (let k = x .strings .each i l .1 in let u = x .settled in omega arith);
       objects = x .objects .many;
       traits = x .kinds .many;
       kinds = λ i l. (let k = x .kinds .each i l in
-      record {
-        class = k .class .0;
-        dynamic = k .dynamic;
-        count = k .count;
-        names = λ j h. name-held _ _ _ _ (getD (s .traits) i noTraits .names) (k .names) j (let n = k .count in omega arith);
-      });
+          record {
+            class = k .class .0;
+            dynamic = k .dynamic;
+            count = k .count;
+            names = λ j h. name-held _ _ _ _ (getD (s .traits) i noTraits .names) (k .names) j (let n = k .count in omega arith);
+          });
     }
 
 -- by how both end

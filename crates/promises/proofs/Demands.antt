@@ -23,7 +23,7 @@ use Rattle.format.specs.declared.Written.the-variants.{Bytes as Written, Unwrit
 use Rattle.format.specs.declared.Frame.{Frame}
 use Rattle.format.specs.Reading as reader
 use Rattle.format.specs.Reading.{ok, bad, Ended, finished, refused, ended, unlessFault, reading}
-use Rattle.format.specs.Step.{Mode, atMarker, atWord, atText, Word, Text, tableText, Use, wait, over, none, end, run, begin}
+use Rattle.format.specs.Step.{Mode, atMarker, atWord, atText, Word, Text, tableText, Use, wait, over, none, shown, end, run, begin}
 use Rattle.format.specs.Numbers.{Numbers, stateOf, lentOf, framesSize}
 use Rattle.format.specs.Answers.{Fed, fed, answerOf, beginCall, feedCall, endCall, read, readCall, output, writeCall, textCall}
 use Rattle.format.specs.Standard.{Tables, Tree, noTables, value, standard, encode}
@@ -35,7 +35,7 @@ use Rattle.wire.specs.Octets.{Bytes}
 use Rattle.format.specs.Claims.{joined, answerIn, takenIn, untaken, fedBy, fedPieces, tally, untook, endBy, endRead, unread, firstNumbers, refusedNumbers}
 use Rattle.format.specs.Claims.{lostNumbers, placeOf, lastByte, Named, BeginSays, FeedSays, EndSays, ReadSays, WriteRefuses, WriteSays, readAnswer, writeAnswer}
 use Rattle.format.specs.Claims.{Going, FeedLeaves, EndLeaves, Feeds, usedRows, Shallow, Returns, Held-just, Passes, Wide, Again, NoShorter, Roomy, widened, beyond}
-use Rattle.format.specs.Claims.{extra, used, RefusedWith, TextKind}
+use Rattle.format.specs.Claims.{extra, used, RefusedWith, RowNew, TextKind}
 use Rattle.format.specs.Byte.{Decided-by}
 use Rattle.format.specs.Limits.{Accord, Kept-to, ReadingEnds, asked, Enters}
 use Rattle.format.specs.Meant.{StateMeant}
@@ -64,6 +64,7 @@ use Rattle.promises.proofs.Together as together
 use Rattle.promises.proofs.Strays as strays
 use Rattle.promises.proofs.Holding as holding
 use Rattle.promises.proofs.Order as order
+use Rattle.promises.proofs.Appears as appears
 use Rattle.promises.proofs.Ranges as ranges
 use Rattle.promises.proofs.Ample as ample
 use Rattle.promises.proofs.Ties as ties
@@ -335,7 +336,8 @@ pub only-reported : (R B out P : List ℕ) (n : ℕ) → Accepted R B out n P
     → (take n P ≡ encode (unfolded R B 0)) × (drop n P ≡ drop n out) × (length P ≡ length out)
 only-reported = writes.reported
 
--- the rows pass where there are some and each passes 13 and 14; else the first that doesn't is told, 13 before 14. Refuses: 13 that always tells row 0
+-- the rows pass where there are some, and none is malformed or unwritable for one of document 01's reasons; else the first that is one is told, 13 before 14.
+-- Refuses: 13 that always tells row 0, a test that lets a column with no meaning pass
 pub test-says : (R B : List ℕ) → TestSays R B (tested R B)
 test-says = least.test-says
 
@@ -476,6 +478,12 @@ pub waiting-loans : (m : Memory) (parts : List (List ℕ)) → Bytes (joined par
     → fedPieces (beginCall m) parts ≡ fed (Waiting k) state l
     → reader.value openLimit noKey (zeroed m) fresh (joined parts) ≡ bad no.unexpectedEnd 0 (tally (beginCall m) parts) l
 waiting-loans = decides.waits-loans
+
+-- "a row from its marker": on any state whose head holds together it shows the marker's kind and its key, and nothing else. Refuses: a kind that shows only at the end
+pub marker-row : (state : Numbers) (m : Memory) (b : ℕ) (k : Key) (ts : List Frame) (c : Cursor) → stateOf state m ≡ wait (atMarker k) ts c m
+    → Together (state .head .lent) (atMarker k) ts c m → c .at < messageLimit → 0x04 ≤ b → b ≤ 0x11 → length ts < openLimit → c .rows < rowsIn (m .rows)
+    → (state′ : Numbers) × (m′ : Memory) × (feedCall state m (b ∷ []) ≡ fed (Waiting 1) state′ m′) × RowNew (m′ .rows) (c .rows) b (shown k)
+marker-row = appears.marker-row
 
 -- a state begun here and left alone never gets 12
 pub feed-never-12 : (m : Memory) (parts : List (List ℕ)) → Bytes (joined parts) → (told place k : ℕ)

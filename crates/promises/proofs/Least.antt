@@ -11,6 +11,7 @@ use Rattle.format.specs.RowTest.{wellFormed, writable, testFrom, tested}
 use Rattle.format.specs.Endings.{RowPasses, AllPass, TestSays, allPass, noRows, firstMalformed, firstUnwritable}
 use Rattle.format.proofs.Tests.{on-bool, clash}
 use Rattle.format.proofs.Lists.{last-or}
+use Rattle.promises.proofs.Faults.{malformed, well-formed, unwritable, can-write}
 
 module _ (R B : List ℕ) where
   -- n rows from row i, where those before it pass
@@ -20,9 +21,9 @@ module _ (R B : List ℕ) where
   from-says i (suc n) e l h =
       on-bool (wellFormed R B i)
       (λ w. rw w (on-bool (writable R B i)
-      (λ v. rw v (from-says (suc i) n (omega arith) l (λ j k. last-or i j (λ (j : ℕ). RowPasses R B j) (h j) (w, v) (omega arith))))
-      (λ v. rw v (firstUnwritable {i = i} (omega arith) h w v))))
-      (λ w. rw w (firstMalformed {i = i} (omega arith) h w))
+      (λ v. rw v (from-says (suc i) n (omega arith) l (λ j k. last-or i j (λ (j : ℕ). RowPasses R B j) (h j) (well-formed R B i w, can-write R B i v) (omega arith))))
+      (λ v. rw v (firstUnwritable {i = i} (omega arith) h (well-formed R B i w) (unwritable R B i v)))))
+      (λ w. rw w (firstMalformed {i = i} (omega arith) h (malformed R B i w)))
 
   -- all rows
   pub test-says : TestSays R B (tested R B)

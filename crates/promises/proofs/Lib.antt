@@ -22,10 +22,12 @@ pub mod Strays
 pub mod Holding
 -- Which refusal comes first.
 pub mod Order
+pub mod Appears
 -- The round trip through the calls.
 pub mod Trips
 -- What each call is of.
 pub mod Ties
+pub mod Faults
 pub mod Least
 -- The demands, and wrong programs that each breaks.
 pub mod Demands

@@ -96,7 +96,7 @@ counts-lent : {lent : Lent} {x : Mode} {ts : List Frame} {c : Cursor} {m : Memor
 counts-lent h = rw (h .loans) (h .counts)
 
 -- so the tests of used counts pass: of the rows, the store, the strings and the objects
-in-loans : {lent : Lent} {x : Mode} {ts : List Frame} {c : Cursor} {m : Memory} → Together lent x ts c m
+pub in-loans : {lent : Lent} {x : Mode} {ts : List Frame} {c : Cursor} {m : Memory} → Together lent x ts c m
     → (ltb (length (m .rows) / rowWidth) (c .rows) ≡ false) × (ltb (length (m .store)) (c .store) ≡ false) × (ltb (length (m .strings) / spanWidth) (c .strings) ≡ false)
     × (ltb (length (m .objects)) (c .objects) ≡ false)
 unfolding lentOf
