@@ -168,7 +168,8 @@ unfolding u.partOf u.groups u.moreOf u.u29 w.sizeOf w.shapeOf z.integerOf z.colu
     ieee.odd ieee.ofFields ieee.ofBits ieee.toUnsigned
 proved = refl
 
--- ---- the others: what waits, two deep messages, the array of two "a" written, also where the output is too short, and a dynamic object written
+-- ---- the others: what waits, two deep messages, the array of two "a" written, also where the output is too short, a dynamic object written, a message fed byte by
+-- byte that lacks a row, and fewer rows lent than at the beginning
 
 pub data Waits : Type 0 where
   waiting : Cursor → m.Memory → Waits
@@ -194,6 +195,13 @@ told (a.read x m) = x
 abbrev deeply : List ℕ → Answer
 deeply bytes = told (a.readCall (m.memory (replicate 768 7) [] [] (replicate 64 7) [] []) bytes)
 
+-- the answer to bytes, with other loans than before
+abbrev said : a.Fed → Answer
+said (a.fed x n m) = x
+
+abbrev relent : a.Fed → m.Memory → List ℕ → Answer
+relent (a.fed x n l) m bytes = said (a.feedCall n m bytes)
+
 pub others :
     (fedTo (0x09 ∷ 0x05 ∷ 0x01 ∷ 0x06 ∷ 0x03 ∷ []) (a.beginCall lent)
     ≡ waiting (m.cursor 5 2 1 0 1 0 0) (loans (gives 5 (row 9 keyless 0 0 0 0 0 0 ∷ row 6 keyless 0 1 0 0 0 0 ∷ []) [] [] (0 ∷ []) [] [])))
@@ -205,6 +213,8 @@ pub others :
     ≡ a.output (Unwritten 10 7 8) (replicate 8 7))
     × (a.writeCall (joined (row 10 keyless 0 0 0 0 1 2 ∷ row 4 (1 ∷ 0 ∷ 1 ∷ []) 0 0 1 0 0 2 ∷ [])) (0x61 ∷ []) (replicate 8 7)
     ≡ a.output (Bytes 8) (0x0A ∷ 0x0B ∷ 0x01 ∷ 0x03 ∷ 0x61 ∷ 0x04 ∷ 0x01 ∷ 0x01 ∷ []))
+    × (dribble (0x09 ∷ 0x0D ∷ 0x01 ∷ replicate 6 0x01) (a.beginCall lent) 0 ≡ dribbled (Refused 10 1 9 0) (loans (refuses 10 1 9)) 9)
+    × (relent (a.beginCall lent) (m.memory (replicate 60 0) (replicate 16 0) (replicate 4 0) (replicate 4 0) (replicate 10 0) (replicate 2 0)) (0x01 ∷ []) ≡ Refused 12 0 0 0)
 unfolding u.partOf u.groups u.moreOf u.u29 w.sizeOf w.shapeOf z.integerOf z.columnOf z.ofColumn n.numberOf n.bytesOf n.digitOf y.finite y.refusedDate y.dateOf o.tells o.sayable
     x.stepOf x.foldOf g.follow g.validText m.messageLimit m.openLimit m.loanFault m.zeroed m.putRow m.col d.kindOf d.newRow d.marker d.closed d.numbered
     d.integerEnd d.dateEnd d.bodied d.classed d.objectClass d.vectorClass d.flagged d.counted d.keyEnd d.grown d.oldText d.reserved d.stored d.judged d.textEnd d.entered
@@ -220,4 +230,4 @@ unfolding u.partOf u.groups u.moreOf u.u29 w.sizeOf w.shapeOf z.integerOf z.colu
     f.wellFormed f.numberWritable f.bodyWritable f.keyWritable f.writable f.testFrom f.tested e._then_ e.these e.streamBytes e.isDeep e.emitTrees e.emitPairs
     e.emitValues e.emitDynamic e.emitEntries e.emitIn e.emit e.settle e.writing a.beginCall a.runHeld a.takenBy a.feedCall a.endCall a.readCall a.writeCall
     ieee.odd ieee.ofFields ieee.ofBits ieee.toUnsigned
-others = (refl, refl, refl, refl, refl, refl)
+others = (refl, refl, refl, refl, refl, refl, refl, refl)

@@ -200,7 +200,8 @@ module _ (R B : List ℕ) (i : ℕ) where
       (λ h f. why.badEnd (leb-false (col R i colEnd) (rowsIn R) f)))
       (λ h f. why.badChildren f))
       (λ h f. bad-given (given R i) refl (second-of (ltb i (col R 0 colEnd) && leb kindUndefined (col R i colKind) && leb (col R i colKind) kindReference)
-      (markFits B (col R i colKeyMark) (col R i colKeyBegin) (col R i colKeySize)) (columnsFit R B i (col R i colKind)) (valueFits R i (col R i colKind)) (leb (col R i colEnd) (rowsIn R)) (closes R (col R i colEnd) (suc i) (children R i)) h) f)
+      (markFits B (col R i colKeyMark) (col R i colKeyBegin) (col R i colKeySize)) (columnsFit R B i (col R i colKind)) (valueFits R i (col R i colKind)) (leb (col R i colEnd) (rowsIn R))
+      (closes R (col R i colEnd) (suc i) (children R i)) h) f)
 
   -- ---- and one that is has none of them
 

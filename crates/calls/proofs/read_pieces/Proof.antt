@@ -36,106 +36,106 @@ same-length : tie.Need-same-length
 same-length c =
     let b12 = c .before .before .before .before .before .before .before .before .before .before .before .before in
     let b31 =
-      b12 .before .before .before .before .before .before .before .before .before .before .before .before .before .before .before .before .before .before .before
-      in
+    b12 .before .before .before .before .before .before .before .before .before .before .before .before .before .before .before .before .before .before .before
+    in
     let b51 =
-      b31 .before .before .before .before .before .before .before .before .before .before .before .before .before .before .before .before .before .before .before .before
-      in
+    b31 .before .before .before .before .before .before .before .before .before .before .before .before .before .before .before .before .before .before .before .before
+    in
     let b71 =
-      b51 .before .before .before .before .before .before .before .before .before .before .before .before .before .before .before .before .before .before .before .before
-      in
+    b51 .before .before .before .before .before .before .before .before .before .before .before .before .before .before .before .before .before .before .before .before
+    in
     let b90 =
-      b71 .before .before .before .before .before .before .before .before .before .before .before .before .before .before .before .before .before .before .before
-      in
+    b71 .before .before .before .before .before .before .before .before .before .before .before .before .before .before .before .before .before .before .before
+    in
     b12 .end .kept .1 .0 ∙ b31 .feed2 .kept .1 .0 ∙ b51 .feed .kept .1 .0 ∙ b71 .begin .kept .1 .0 ∙ b90 .fresh .kept .0
 
 same-length-2 : tie.Need-same-length-2
 same-length-2 c =
     let b12 = c .before .before .before .before .before .before .before .before .before .before .before .before in
     let b31 =
-      b12 .before .before .before .before .before .before .before .before .before .before .before .before .before .before .before .before .before .before .before
-      in
+    b12 .before .before .before .before .before .before .before .before .before .before .before .before .before .before .before .before .before .before .before
+    in
     let b51 =
-      b31 .before .before .before .before .before .before .before .before .before .before .before .before .before .before .before .before .before .before .before .before
-      in
+    b31 .before .before .before .before .before .before .before .before .before .before .before .before .before .before .before .before .before .before .before .before
+    in
     let b71 =
-      b51 .before .before .before .before .before .before .before .before .before .before .before .before .before .before .before .before .before .before .before .before
-      in
+    b51 .before .before .before .before .before .before .before .before .before .before .before .before .before .before .before .before .before .before .before .before
+    in
     let b90 =
-      b71 .before .before .before .before .before .before .before .before .before .before .before .before .before .before .before .before .before .before .before
-      in
+    b71 .before .before .before .before .before .before .before .before .before .before .before .before .before .before .before .before .before .before .before
+    in
     b12 .end .kept .1 .1 .0 ∙ b31 .feed2 .kept .1 .1 .0 ∙ b51 .feed .kept .1 .1 .0 ∙ b71 .begin .kept .1 .1 .0 ∙ b90 .fresh .kept .1 .0
 
 same-length-3 : tie.Need-same-length-3
 same-length-3 c =
     let b12 = c .before .before .before .before .before .before .before .before .before .before .before .before in
     let b31 =
-      b12 .before .before .before .before .before .before .before .before .before .before .before .before .before .before .before .before .before .before .before
-      in
+    b12 .before .before .before .before .before .before .before .before .before .before .before .before .before .before .before .before .before .before .before
+    in
     let b51 =
-      b31 .before .before .before .before .before .before .before .before .before .before .before .before .before .before .before .before .before .before .before .before
-      in
+    b31 .before .before .before .before .before .before .before .before .before .before .before .before .before .before .before .before .before .before .before .before
+    in
     let b71 =
-      b51 .before .before .before .before .before .before .before .before .before .before .before .before .before .before .before .before .before .before .before .before
-      in
+    b51 .before .before .before .before .before .before .before .before .before .before .before .before .before .before .before .before .before .before .before .before
+    in
     let b90 =
-      b71 .before .before .before .before .before .before .before .before .before .before .before .before .before .before .before .before .before .before .before
-      in
+    b71 .before .before .before .before .before .before .before .before .before .before .before .before .before .before .before .before .before .before .before
+    in
     b12 .end .kept .1 .1 .1 .0 ∙ b31 .feed2 .kept .1 .1 .1 .0 ∙ b51 .feed .kept .1 .1 .1 .0 ∙ b71 .begin .kept .1 .1 .1 .0 ∙ b90 .fresh .kept .1 .1 .0
 
 same-length-4 : tie.Need-same-length-4
 same-length-4 c =
     let b12 = c .before .before .before .before .before .before .before .before .before .before .before .before in
     let b31 =
-      b12 .before .before .before .before .before .before .before .before .before .before .before .before .before .before .before .before .before .before .before
-      in
+    b12 .before .before .before .before .before .before .before .before .before .before .before .before .before .before .before .before .before .before .before
+    in
     let b51 =
-      b31 .before .before .before .before .before .before .before .before .before .before .before .before .before .before .before .before .before .before .before .before
-      in
+    b31 .before .before .before .before .before .before .before .before .before .before .before .before .before .before .before .before .before .before .before .before
+    in
     let b71 =
-      b51 .before .before .before .before .before .before .before .before .before .before .before .before .before .before .before .before .before .before .before .before
-      in
+    b51 .before .before .before .before .before .before .before .before .before .before .before .before .before .before .before .before .before .before .before .before
+    in
     let b90 =
-      b71 .before .before .before .before .before .before .before .before .before .before .before .before .before .before .before .before .before .before .before
-      in
+    b71 .before .before .before .before .before .before .before .before .before .before .before .before .before .before .before .before .before .before .before
+    in
     b12 .end .kept .1 .1 .1 .1 .0 ∙ b31 .feed2 .kept .1 .1 .1 .1 .0 ∙ b51 .feed .kept .1 .1 .1 .1 .0 ∙ b71 .begin .kept .1 .1 .1 .1 .0 ∙
-      b90 .fresh .kept .1 .1 .1 .0
+    b90 .fresh .kept .1 .1 .1 .0
 
 same-length-5 : tie.Need-same-length-5
 same-length-5 c =
     let b12 = c .before .before .before .before .before .before .before .before .before .before .before .before in
     let b31 =
-      b12 .before .before .before .before .before .before .before .before .before .before .before .before .before .before .before .before .before .before .before
-      in
+    b12 .before .before .before .before .before .before .before .before .before .before .before .before .before .before .before .before .before .before .before
+    in
     let b51 =
-      b31 .before .before .before .before .before .before .before .before .before .before .before .before .before .before .before .before .before .before .before .before
-      in
+    b31 .before .before .before .before .before .before .before .before .before .before .before .before .before .before .before .before .before .before .before .before
+    in
     let b71 =
-      b51 .before .before .before .before .before .before .before .before .before .before .before .before .before .before .before .before .before .before .before .before
-      in
+    b51 .before .before .before .before .before .before .before .before .before .before .before .before .before .before .before .before .before .before .before .before
+    in
     let b90 =
-      b71 .before .before .before .before .before .before .before .before .before .before .before .before .before .before .before .before .before .before .before
-      in
+    b71 .before .before .before .before .before .before .before .before .before .before .before .before .before .before .before .before .before .before .before
+    in
     b12 .end .kept .1 .1 .1 .1 .1 .0 ∙ b31 .feed2 .kept .1 .1 .1 .1 .1 .0 ∙ b51 .feed .kept .1 .1 .1 .1 .1 .0 ∙ b71 .begin .kept .1 .1 .1 .1 .1 .0 ∙
-      b90 .fresh .kept .1 .1 .1 .1 .0
+    b90 .fresh .kept .1 .1 .1 .1 .0
 
 same-length-6 : tie.Need-same-length-6
 same-length-6 c =
     let b12 = c .before .before .before .before .before .before .before .before .before .before .before .before in
     let b31 =
-      b12 .before .before .before .before .before .before .before .before .before .before .before .before .before .before .before .before .before .before .before
-      in
+    b12 .before .before .before .before .before .before .before .before .before .before .before .before .before .before .before .before .before .before .before
+    in
     let b51 =
-      b31 .before .before .before .before .before .before .before .before .before .before .before .before .before .before .before .before .before .before .before .before
-      in
+    b31 .before .before .before .before .before .before .before .before .before .before .before .before .before .before .before .before .before .before .before .before
+    in
     let b71 =
-      b51 .before .before .before .before .before .before .before .before .before .before .before .before .before .before .before .before .before .before .before .before
-      in
+    b51 .before .before .before .before .before .before .before .before .before .before .before .before .before .before .before .before .before .before .before .before
+    in
     let b90 =
-      b71 .before .before .before .before .before .before .before .before .before .before .before .before .before .before .before .before .before .before .before
-      in
+    b71 .before .before .before .before .before .before .before .before .before .before .before .before .before .before .before .before .before .before .before
+    in
     b12 .end .kept .1 .1 .1 .1 .1 .1 .0 ∙ b31 .feed2 .kept .1 .1 .1 .1 .1 .1 .0 ∙ b51 .feed .kept .1 .1 .1 .1 .1 .1 .0 ∙
-      b71 .begin .kept .1 .1 .1 .1 .1 .1 .0 ∙ b90 .fresh .kept .1 .1 .1 .1 .1 .0
+    b71 .begin .kept .1 .1 .1 .1 .1 .1 .0 ∙ b90 .fresh .kept .1 .1 .1 .1 .1 .0
 
 returns : tie.Need-returns
 returns c = search needs
@@ -144,4 +144,4 @@ pub read-pieces-spec : {M : Type 1} → statement M
 read-pieces-spec =
     tie.close
     (tie.spec fresh-requires begin-requires slice-aggregate-feed feed-requires slice-aggregate-feed-2 feed-requires-2 end-requires same-length
-      same-length-2 same-length-3 same-length-4 same-length-5 same-length-6 returns)
+    same-length-2 same-length-3 same-length-4 same-length-5 same-length-6 returns)

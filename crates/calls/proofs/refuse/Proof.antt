@@ -29,11 +29,11 @@ read-requires c κs = search needs
 same-length : tie.Need-same-length
 same-length c =
     let b31 =
-      c .before .before .before .before .before .before .before .before .before .before .before .before .before .before .before .before .before .before .before .before .before .before .before .before .before .before .before .before .before .before .before
-      in
+    c .before .before .before .before .before .before .before .before .before .before .before .before .before .before .before .before .before .before .before .before .before .before .before .before .before .before .before .before .before .before .before
+    in
     let b70 =
-      b31 .before .before .before .before .before .before .before .before .before .before .before .before .before .before .before .before .before .before .before .before .before .before .before .before .before .before .before .before .before .before .before .before .before .before .before .before .before .before .before
-      in
+    b31 .before .before .before .before .before .before .before .before .before .before .before .before .before .before .before .before .before .before .before .before .before .before .before .before .before .before .before .before .before .before .before .before .before .before .before .before .before .before .before
+    in
     b31 .end .kept .1 .0 ∙ b70 .begin .kept .1 .0
 
 same-length-2 : tie.Need-same-length-2
@@ -47,72 +47,72 @@ same-length-4 : tie.Need-same-length-4
 same-length-4 c =
     let b12 = c .before .before .before .before .before .before .before .before .before .before .before .before in
     let b31 =
-      b12 .before .before .before .before .before .before .before .before .before .before .before .before .before .before .before .before .before .before .before
-      in
+    b12 .before .before .before .before .before .before .before .before .before .before .before .before .before .before .before .before .before .before .before
+    in
     let b50 =
-      b31 .before .before .before .before .before .before .before .before .before .before .before .before .before .before .before .before .before .before .before
-      in
+    b31 .before .before .before .before .before .before .before .before .before .before .before .before .before .before .before .before .before .before .before
+    in
     let b70 =
-      b50 .before .before .before .before .before .before .before .before .before .before .before .before .before .before .before .before .before .before .before .before
-      in
+    b50 .before .before .before .before .before .before .before .before .before .before .before .before .before .before .before .before .before .before .before .before
+    in
     b12 .read .kept .1 .0 ∙ b31 .end .kept .1 .1 .0 ∙ b50 .feed .kept .1 .1 .0 ∙ b70 .begin .kept .1 .1 .0
 
 same-length-5 : tie.Need-same-length-5
 same-length-5 c =
     let b12 = c .before .before .before .before .before .before .before .before .before .before .before .before in
     let b31 =
-      b12 .before .before .before .before .before .before .before .before .before .before .before .before .before .before .before .before .before .before .before
-      in
+    b12 .before .before .before .before .before .before .before .before .before .before .before .before .before .before .before .before .before .before .before
+    in
     let b50 =
-      b31 .before .before .before .before .before .before .before .before .before .before .before .before .before .before .before .before .before .before .before
-      in
+    b31 .before .before .before .before .before .before .before .before .before .before .before .before .before .before .before .before .before .before .before
+    in
     let b70 =
-      b50 .before .before .before .before .before .before .before .before .before .before .before .before .before .before .before .before .before .before .before .before
-      in
+    b50 .before .before .before .before .before .before .before .before .before .before .before .before .before .before .before .before .before .before .before .before
+    in
     b12 .read .kept .1 .1 .0 ∙ b31 .end .kept .1 .1 .1 .0 ∙ b50 .feed .kept .1 .1 .1 .0 ∙ b70 .begin .kept .1 .1 .1 .0
 
 same-length-6 : tie.Need-same-length-6
 same-length-6 c =
     let b12 = c .before .before .before .before .before .before .before .before .before .before .before .before in
     let b31 =
-      b12 .before .before .before .before .before .before .before .before .before .before .before .before .before .before .before .before .before .before .before
-      in
+    b12 .before .before .before .before .before .before .before .before .before .before .before .before .before .before .before .before .before .before .before
+    in
     let b50 =
-      b31 .before .before .before .before .before .before .before .before .before .before .before .before .before .before .before .before .before .before .before
-      in
+    b31 .before .before .before .before .before .before .before .before .before .before .before .before .before .before .before .before .before .before .before
+    in
     let b70 =
-      b50 .before .before .before .before .before .before .before .before .before .before .before .before .before .before .before .before .before .before .before .before
-      in
+    b50 .before .before .before .before .before .before .before .before .before .before .before .before .before .before .before .before .before .before .before .before
+    in
     b12 .read .kept .1 .1 .1 .0 ∙ b31 .end .kept .1 .1 .1 .1 .0 ∙ b50 .feed .kept .1 .1 .1 .1 .0 ∙ b70 .begin .kept .1 .1 .1 .1 .0
 
 same-length-7 : tie.Need-same-length-7
 same-length-7 c =
     let b12 = c .before .before .before .before .before .before .before .before .before .before .before .before in
     let b31 =
-      b12 .before .before .before .before .before .before .before .before .before .before .before .before .before .before .before .before .before .before .before
-      in
+    b12 .before .before .before .before .before .before .before .before .before .before .before .before .before .before .before .before .before .before .before
+    in
     let b50 =
-      b31 .before .before .before .before .before .before .before .before .before .before .before .before .before .before .before .before .before .before .before
-      in
+    b31 .before .before .before .before .before .before .before .before .before .before .before .before .before .before .before .before .before .before .before
+    in
     let b70 =
-      b50 .before .before .before .before .before .before .before .before .before .before .before .before .before .before .before .before .before .before .before .before
-      in
+    b50 .before .before .before .before .before .before .before .before .before .before .before .before .before .before .before .before .before .before .before .before
+    in
     b12 .read .kept .1 .1 .1 .1 .0 ∙ b31 .end .kept .1 .1 .1 .1 .1 .0 ∙ b50 .feed .kept .1 .1 .1 .1 .1 .0 ∙ b70 .begin .kept .1 .1 .1 .1 .1 .0
 
 same-length-8 : tie.Need-same-length-8
 same-length-8 c =
     let b12 = c .before .before .before .before .before .before .before .before .before .before .before .before in
     let b31 =
-      b12 .before .before .before .before .before .before .before .before .before .before .before .before .before .before .before .before .before .before .before
-      in
+    b12 .before .before .before .before .before .before .before .before .before .before .before .before .before .before .before .before .before .before .before
+    in
     let b50 =
-      b31 .before .before .before .before .before .before .before .before .before .before .before .before .before .before .before .before .before .before .before
-      in
+    b31 .before .before .before .before .before .before .before .before .before .before .before .before .before .before .before .before .before .before .before
+    in
     let b70 =
-      b50 .before .before .before .before .before .before .before .before .before .before .before .before .before .before .before .before .before .before .before .before
-      in
+    b50 .before .before .before .before .before .before .before .before .before .before .before .before .before .before .before .before .before .before .before .before
+    in
     b12 .read .kept .1 .1 .1 .1 .1 .0 ∙ b31 .end .kept .1 .1 .1 .1 .1 .1 .0 ∙ b50 .feed .kept .1 .1 .1 .1 .1 .1 .0 ∙
-      b70 .begin .kept .1 .1 .1 .1 .1 .1 .0
+    b70 .begin .kept .1 .1 .1 .1 .1 .1 .0
 
 returns : tie.Need-returns
 returns c = search needs
@@ -121,4 +121,4 @@ pub refuse-spec : {M : Type 1} → statement M
 refuse-spec =
     tie.close
     (tie.spec begin-requires slice-aggregate-feed feed-requires end-requires read-requires same-length same-length-2 same-length-3 same-length-4
-      same-length-5 same-length-6 same-length-7 same-length-8 returns)
+    same-length-5 same-length-6 same-length-7 same-length-8 returns)
