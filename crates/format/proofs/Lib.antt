@@ -30,3 +30,7 @@ pub mod Loans
 pub mod Unfolded
 pub mod Levels
 pub mod Stores
+-- What the numbers of a state mean; why a row is refused by 13 or 14, and which one is told.
+pub mod Meant
+pub mod Faults
+pub mod Least

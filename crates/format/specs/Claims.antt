@@ -94,10 +94,10 @@ abbrev pub RefusedWith : Numbers → Memory → List ℕ → ℕ → ℕ → ℕ
 RefusedWith state m piece n told place k = feedCall state m piece ≡ fed (Refused n told place k) (refusedNumbers n told place (state .head .lent) (state .frames)) (zeroed m)
 
 -- where a state stands that hasn't ended
-abbrev pub placeOf : State → ℕ
-placeOf (wait x ts c m) = c .at
-placeOf (over e) = 0
-placeOf (none m) = 0
+abbrev pub placeIn : State → ℕ
+placeIn (wait x ts c m) = c .at
+placeIn (over e) = 0
+placeIn (none m) = 0
 
 -- the bytes that an answer's last byte counts as: none for 11 and 12
 abbrev pub lastByte : Answer → ℕ

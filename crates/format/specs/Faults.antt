@@ -11,7 +11,7 @@ use Rattle.rows.specs.Kinds.{kindUndefined, kindBoolean, kindInteger, kindDate,
 use Rattle.utf8.specs.Grammar.{validText}
 use Rattle.format.specs.Standard.{isStar}
 use Rattle.format.specs.Unfold.{bodyOf, keyText}
-use Rattle.format.specs.RowTest.{hasText, hasBody, hasClass, hasFlag, hasNumber, hasCount, hasCount2, isObject, children, closes, Given, keyless, fullKey, given}
+use Rattle.format.specs.RowTest.{hasText, hasBody, hasClass, hasFlag, hasNumber, hasCount, hasCount2, isObject, children, closes, keyless, fullKey, given}
 
 -- a span that isn't in the store: past it, or empty and past 0
 pub data BadSpan (B : List ℕ) (begin size : ℕ) : Type 0 where

@@ -2,10 +2,10 @@
 use mathlib.Core.Path.{_≡_}
 use mathlib.Core.Logic.{_≢_}
 use mathlib.Core.List.{List, [], _∷_}
-use Prim.Native.Nat.{ℕ, _+_, _*_, _≤_}
+use Prim.Native.Nat.{ℕ, _+_, _*_}
 use lib.Dec.{T}
 use lib.ListN.{length, getD}
-use Rattle.rows.specs.Memory.{Memory, rowsMost, storeMost}
+use Rattle.rows.specs.Memory.{Memory}
 use Rattle.format.specs.declared.Frame.{Frame}
 use Rattle.format.specs.declared.Work.{Work}
 use Rattle.format.specs.Codes.{statusWaiting, statusFinished, statusRefused, modeMarker, modeWord, modeNumber, modeFlag, modeText}

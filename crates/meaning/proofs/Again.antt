@@ -2,8 +2,8 @@
 use mathlib.Core.Path.{_≡_, ap, sym, _∙_}
 use mathlib.Core.Bool.{true}
 use mathlib.Core.List.{List, _++_}
-use Prim.Native.Nat.{ℕ, _^_, _<_}
-use lib.ListN.{getD, take, drop}
+use Prim.Native.Nat.{ℕ}
+use lib.ListN.{take, drop}
 use Rattle.rows.specs.Memory.{Memory, faultOf}
 use Rattle.format.specs.Reading.{ok, reading}
 use Rattle.format.specs.Standard.{Tables, standard, encode}

@@ -21,7 +21,7 @@ use Rattle.format.specs.Decide.{Body, Width, widthOf}
 use Rattle.format.specs.Reading.{ok, bind, _>>=_, ret}
 use Rattle.format.specs.Standard.{Plain, undefined, null, boolean, integer, double, string, xmlDocument, xml, byteArray, date}
 use Rattle.format.specs.Standard.{intVector, uintVector, doubleVector, Tree, plain, Tables, Std, change, byte, bytes, word, chars}
-use Rattle.format.specs.Standard.{keptText, sizeSays, objectSays, follows}
+use Rattle.format.specs.Standard.{keptText, follows}
 use Rattle.format.specs.Standard.{textOf, text}
 use Rattle.format.specs.Standard.{opened, shut, vectorOf, newOf, sizedOf, marked, value, sizeBytes, textBytes, flagByte, encodePlain}
 use Rattle.format.proofs.Tests.{flag-back}

@@ -1,6 +1,5 @@
 -- More depth changes nothing but refusal 9: a reading that may open more values ends as one that may open fewer, unless that one was refused with 9.
 use mathlib.Core.Path.{_≡_, refl}
-use mathlib.Core.Logic.{_≢_}
 use mathlib.Core.Bool.{Bool, true, false, cond}
 use mathlib.Core.List.{List}
 use Prim.Native.Nat.{ℕ, zero, suc, _≤_}
@@ -18,7 +17,7 @@ use Rattle.wire.specs.declared.Shape.the-variants.{Object, Known, External, Inl
 use Rattle.format.specs.Decide.{Out, stop, lift, onRows, marker, kindOf}
 use Rattle.format.specs.Decide.{Body, xml, date, array, bytes, raw, objects, dictionary, Kind, leaf, integer, double, string, object, sized}
 use Rattle.format.specs.Reading.{Result, ok, bad, bind, _>>=_, byte, Reader, Values, by, decided, entries, pair, pairsBy, pairs, couple, dynamics, members}
-use Rattle.format.specs.Reading.{inlined, objectOf, newOf, sizedOf, marked, value, Ended, refused, ended, unlessFault, reading}
+use Rattle.format.specs.Reading.{inlined, objectOf, newOf, sizedOf, marked, value, Ended, ended, unlessFault, reading}
 pub use Rattle.format.specs.Claims.{Shallow}
 
 -- ---- results of which the second had no less depth

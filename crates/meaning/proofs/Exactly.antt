@@ -1,19 +1,18 @@
 -- `canHold` is exact: a reading that finishes on a written tree has used just the room that `canHold` asks for, so the loans can hold that tree.
-use mathlib.Core.Path.{_≡_, refl, _∙_}
-use mathlib.Core.Logic.{_≢_}
-use mathlib.Core.Bool.{Bool, true, false}
+use mathlib.Core.Path.{_≡_, _∙_}
+use mathlib.Core.Bool.{true}
 use mathlib.Core.List.{List, _++_}
 use Prim.Native.Nat.{ℕ, zero, suc, _+_, _*_, _≤_}
 use native.Mathlib.Omega.{arith}
 use lib.ListN.{length}
 use borrow.Author.Tests.{le-leb}
 use Rattle.rows.specs.declared.Cursor.{Cursor}
-use Rattle.rows.specs.Memory.{Memory, memory, rowWidth, spanWidth, traitWidth, openLimit, noKey, fresh, zeroed, faultOf}
+use Rattle.rows.specs.Memory.{Memory, rowWidth, spanWidth, traitWidth, openLimit, noKey, fresh, zeroed, faultOf}
 use Rattle.wire.proofs.Octets.{Bytes}
-use Rattle.format.specs.Reading.{Result, ok, bad, Ended, finished, refused, ended, unlessFault, value, reading}
+use Rattle.format.specs.Reading.{Result, ok, bad, finished, ended, unlessFault, value, reading}
 use Rattle.format.specs.Step.{State, run, begin, end}
 use Rattle.format.specs.Standard.{Tree, encode}
-use Rattle.format.specs.Holds.{Room, room, ofText, ofClass, ofPlain, ofTree, ofPairs, ofSealed, canHold}
+use Rattle.format.specs.Holds.{Room, ofTree, canHold}
 use Rattle.format.specs.Numbers.{lentOf}
 use Rattle.format.specs.declared.Lent.{Lent}
 use Rattle.format.proofs.Tests.{on-bool, clash}
@@ -26,7 +25,7 @@ use Rattle.meaning.proofs.Parts.{depth}
 use Rattle.format.specs.Writable.{Writable}
 use Rattle.meaning.proofs.Holds.{Spent, Exact, Any}
 use Rattle.meaning.proofs.Finishes.{tree-goes}
-use Rattle.meaning.proofs.Trip.{Returns, tree-trip}
+use Rattle.meaning.proofs.Trip.{tree-trip}
 pub use Rattle.format.specs.Claims.{Held-just, holds, lacks}
 
 -- ---- what a finished reading used lies within the loans

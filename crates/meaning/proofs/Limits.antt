@@ -3,15 +3,14 @@
 use mathlib.Core.Path.{_≡_, refl, sym, ap, _∙_}
 use mathlib.Core.Bool.{true, cond}
 use mathlib.Core.List.{List, [], _∷_, _++_}
-use Prim.Native.Nat.{ℕ, zero, suc, _+_, _-_, _≤_, _<_}
+use Prim.Native.Nat.{ℕ, zero, suc, _+_, _≤_, _<_}
 use native.Mathlib.Omega.{arith}
 use lib.Dec.{leb, eqb}
 use native.Mathlib.Nat.{add-zero, zero-add}
 use lib.ListN.{length, length-append}
 use borrow.Author.Tests.{leb-true, leb-false}
 use Rattle.rows.specs.declared.Cursor.{Cursor}
-use Rattle.rows.specs.declared.Key.{Key}
-use Rattle.rows.specs.Memory.{Memory, zeroed, faultOf, messageLimit, openLimit}
+use Rattle.rows.specs.Memory.{Memory, zeroed, faultOf, messageLimit}
 use Rattle.format.specs.declared.Frame.{Frame}
 use Rattle.format.specs.declared.Lent.{Lent}
 use Rattle.format.specs.Step.{Use, Mode, atMarker, atWord, atNumber, atFlag, atText, atRaw, astray, State, wait, over, none, act, step, run, begin, beginAt, end}

@@ -30,7 +30,7 @@ use Rattle.meaning.proofs.Finished.{finished-val, val-table, fresh-read
 pub use Rattle.meaning.proofs.Finished.{usedRows, usedStore, used-many}
 use Rattle.meaning.proofs.Unfolding.{View, rep-unfolds}
 use Rattle.meaning.proofs.Values.{value-alike}
-use Rattle.meaning.proofs.Limits.{Limit, limit-most, limits}
+use Rattle.meaning.proofs.Limits.{limit-most, limits}
 use Rattle.format.specs.Refusals as refusals
 use Rattle.format.specs.Limits.{TablesHeld}
 pub use Rattle.format.specs.Limits.{Accord, reads, refuses, limited, Kept-to, finishes, stops, meets}

@@ -4,7 +4,7 @@ use mathlib.Core.List.{List, [], _∷_, _++_, append-assoc, append-nil}
 use Prim.Native.Nat.{ℕ, suc, max}
 use native.Mathlib.Omega.{arith}
 use Rattle.format.specs.Standard.{Tree, plain, array, object, objectVector, dictionary, Trees, nil, cons, Pairs, noPairs, pair, Entries}
-use Rattle.format.specs.Standard.{noEntries, entry, textBytes, encodePlain, arrayHead, objectHead, vectorHead, dictionaryHead}
+use Rattle.format.specs.Standard.{noEntries, entry, textBytes, encodePlain, arrayHead, objectHead}
 use Rattle.format.specs.Standard.{encode, encodeTrees, encodePairs, encodeValues, encodeDynamic, encodeEntries}
 pub use Rattle.format.specs.Endings.{Piece, own, child, bytesIn}
 unfoldable pub use Rattle.format.specs.Endings.{depth, depthTrees, depthPairs, depthEntries}

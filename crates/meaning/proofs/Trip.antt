@@ -6,16 +6,15 @@ use Prim.Native.Nat.{ℕ, _≤_}
 use native.Mathlib.Omega.{arith}
 use native.Mathlib.Decide.{ℕ-discrete}
 use lib.ListN.{length, take}
-use Rattle.rows.specs.declared.Cursor.{Cursor}
 use Rattle.rows.specs.Memory.{Memory, faultOf, openLimit}
 use Rattle.wire.proofs.Octets.{Bytes}
-use Rattle.format.specs.Reading.{ResultOf, ok, Ended, finished, reading}
+use Rattle.format.specs.Reading.{ResultOf, ok, Ended, reading}
 use Rattle.format.specs.Standard.{Tables, Tree, encode}
 use Rattle.format.specs.Unfold.{unfolded}
 use Rattle.format.specs.Writing.{written, writing}
 use Rattle.format.specs.Holds.{canHold}
 use Rattle.format.proofs.Tests.{clash}
-use Rattle.meaning.proofs.Meaning.{usedRows, Accord, reads, refuses, limited, reading-means}
+use Rattle.meaning.proofs.Meaning.{Accord, reads, refuses, limited, reading-means}
 use Rattle.meaning.proofs.Limits.{limit-most}
 use Rattle.meaning.proofs.Parts.{depth}
 use Rattle.meaning.proofs.Holds.{limit}

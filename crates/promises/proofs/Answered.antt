@@ -10,15 +10,15 @@ use lib.Dec.{leb}
 use borrow.Author.Tests.{leb-true, leb-false, lt-leb}
 use lib.ListN.{length, replicate, length-replicate}
 use Rattle.rows.specs.declared.Cursor.{Cursor}
-use Rattle.rows.specs.Memory.{Memory, fresh, zeros, zeroed, faultOf, messageLimit, noKey, loanNames}
+use Rattle.rows.specs.Memory.{Memory, zeros, zeroed, faultOf, messageLimit, loanNames}
 use Rattle.wire.proofs.Octets.{Bytes}
 use Rattle.format.specs.declared.Answer.{Answer}
-use Rattle.format.specs.declared.Answer.the-variants.{Waiting, Finished, Refused}
+use Rattle.format.specs.declared.Answer.the-variants.{Waiting, Refused}
 use Rattle.format.specs.declared.Lent.{Lent}
 use Rattle.format.specs.declared.Frame.{Frame}
 use Rattle.format.specs.Reading.{Ended, finished, refused, taken}
-use Rattle.format.specs.Step.{Mode, atMarker, State, wait, over, none, act, step, end, begin}
-use Rattle.format.specs.Numbers.{Numbers, Held, held, head, noWork, lentOf, workOf, laid, stateOf, numbersOf, memoryOf, afterStep, byteStep, sound}
+use Rattle.format.specs.Step.{Mode, State, wait, over, none, act, step, end, begin}
+use Rattle.format.specs.Numbers.{Numbers, Held, held, head, lentOf, laid, stateOf, numbersOf, memoryOf, afterStep, byteStep, sound}
 use Rattle.format.specs.Numbers.{soundStep, framesSize}
 use Rattle.format.specs.Answers.{fed, answerOf, answered, beginCall, runHeld, costFrom, stateIn, takenBy, feedCall, endOf, endCall}
 use Rattle.format.proofs.Tests.{on-bool, is-true, clash}
@@ -27,12 +27,11 @@ use Rattle.format.proofs.Pieces.{answerIn, takenIn, untaken, taken-length, run-
 use Rattle.format.proofs.Shows.{memoryIn, lengths-run, memory-of, good-sound, good-waits}
 use Rattle.format.proofs.Placed.{RefusedBy, unknown, absent, unfinished, external, undated, invalid, deep, full, astrays, Placed, placed-act}
 use Rattle.format.proofs.Placed as placed
-use Rattle.promises.proofs.Stands.{Stands, waits, finishes, faulty, declines, passes, forgets, placeOf, Any, every-any, every-octet}
+use Rattle.promises.proofs.Stands.{Stands, waits, finishes, faulty, declines, passes, forgets, placeIn, Any, every-any, every-octet}
 use Rattle.promises.proofs.Stands.{stands-going, on-finished, on-refused, able-act, able-finishes, able-says, long-said, loan-said, fault-most}
 use Rattle.format.specs.Claims.{Going, waiting, unbegun, FeedLeaves, EndLeaves, repeated, asked, new}
 use Rattle.promises.proofs.Counted.{Waits, waits-all}
 use Rattle.format.specs.Refusals as refusals
-use Rattle.format.specs.Codes.{statusWaiting, statusRefused}
 pub use Rattle.format.specs.Claims.{firstNumbers, refusedNumbers, lostNumbers}
 pub use Rattle.format.specs.Claims.{Refuses, byte, past, stray, Feeds, awaits, completes, rejects}
 
@@ -82,10 +81,10 @@ answer-of (held n m) k = refl
 
 module _ (n : Numbers) (m : Memory) (b : ℕ) (bs : List ℕ) (going : Going (stateOf n m)) where
   -- whatever the state and the loans
-  pub feed-going : Feeds (placeOf (stateOf n m)) (b ∷ bs) (answerIn (feedCall n m (b ∷ bs)))
+  pub feed-going : Feeds (placeIn (stateOf n m)) (b ∷ bs) (answerIn (feedCall n m (b ∷ bs)))
   unfolding feedCall
   feed-going = rw (answer-of (runHeld (held n m) (b ∷ bs)) (takenBy (held n m) (b ∷ bs)))
-      (feeds (placeOf (stateOf n m)) (takenBy (held n m) (b ∷ bs)) (b ∷ bs) (stateIn (runHeld (held n m) (b ∷ bs)))
+      (feeds (placeIn (stateOf n m)) (takenBy (held n m) (b ∷ bs)) (b ∷ bs) (stateIn (runHeld (held n m) (b ∷ bs)))
       (stands-going (held n m) b bs (every-octet (Bytes (b ∷ bs)) (b ∷ bs) (λ h. h)) going)
       (taken-most n m (b ∷ bs)) (waits-all (held n m) (b ∷ bs)))
 

@@ -1,13 +1,10 @@
 -- A row appears at its marker, with the marker's kind and its key, on any waiting state whose head holds together.
-use mathlib.Core.Path.{_≡_, refl, sym, ap, _∙_}
-use mathlib.Core.Bool.{true, false}
+use mathlib.Core.Path.{_≡_, refl, _∙_}
 use mathlib.Core.Logic.{_≢_}
 use mathlib.Core.List.{List, [], _∷_}
-use Prim.Native.Nat.{ℕ, zero, suc, _+_, _*_, _-_, _/_, _^_, _≤_, _<_}
-use native.Mathlib.Nat.{add-zero}
+use Prim.Native.Nat.{ℕ, zero, suc, _+_, _*_, _-_, _/_, _≤_, _<_}
 use native.Mathlib.Omega.{arith}
-use borrow.Author.Tests.{lt-ltb, le-ltb, lt-leb, ne-eqb}
-use lib.Dec.{leb, ltb, eqb}
+use borrow.Author.Tests.{le-ltb, lt-leb, ne-eqb}
 use lib.ListN.{length, getD, replicate}
 use lib.Seq.{sets, length-sets}
 use Rattle.rows.specs.declared.Cursor.{Cursor}
@@ -17,13 +14,12 @@ use Rattle.format.specs.declared.Answer.the-variants.{Waiting}
 use Rattle.format.specs.declared.Frame.{Frame}
 use Rattle.format.specs.Reading.{taken}
 use Rattle.format.specs.Decide.{newRow, marker, kindOf, Kind, leaf, integer, double, string, object, sized, rowsTo}
-use Rattle.format.specs.Step.{Mode, atMarker, State, wait, begun, shown, act, step}
+use Rattle.format.specs.Step.{Mode, atMarker, wait, begun, shown, act, step}
 use Rattle.format.specs.Numbers.{Numbers, held, stateOf, numbersOf, modeOf, workOf, framesOf, laid, soundStep, afterStep, byteStep}
 use Rattle.format.specs.Answers.{fed, runHeld, takenBy, feedCall}
 use Rattle.format.specs.Claims.{RowNew}
 use Rattle.format.specs.Together.{Together}
-use Rattle.format.specs.Codes.{statusWaiting}
-use Rattle.format.proofs.Lists.{Kept, kept-sets, sets-at}
+use Rattle.format.proofs.Lists.{sets-at}
 use Rattle.meaning.proofs.Ground.{col-lent}
 use Rattle.format.proofs.Tests.{clash}
 use Rattle.promises.proofs.Order.{in-loans}

@@ -1,16 +1,13 @@
 -- The bytes that are taken, on any state and loans: what still waits took all of them, and the byte that decided is the last one taken, but for 11 and 12.
 use mathlib.Core.Path.{_≡_, refl, sym, ap, _∙_}
-use mathlib.Core.Bool.{cond, _||_}
 use mathlib.Core.Logic.{_≢_}
 use mathlib.Core.List.{List, [], _∷_, _++_}
 use Prim.Native.Nat.{ℕ, suc, _+_, _^_, _<_}
 use native.Mathlib.Nat.{add-zero, zero-add, add-assoc}
 use native.Mathlib.Omega.{arith}
-use lib.Dec.{eqb}
 use lib.ListN.{length}
-use Rattle.rows.specs.Memory.{Memory, messageLimit}
-use Rattle.format.specs.declared.Answer.{Answer}
-use Rattle.format.specs.declared.Answer.the-variants.{Waiting, Finished, Refused}
+use Rattle.rows.specs.Memory.{Memory}
+use Rattle.format.specs.declared.Answer.the-variants.{Waiting, Refused}
 use Rattle.format.specs.Reading.{Ended, finished, refused}
 use Rattle.format.specs.Step.{State, wait, over, none}
 use Rattle.format.specs.Numbers.{Numbers, Held, held, stateOf, numbersOf, afterStep, byteStep, stepped}
@@ -18,7 +15,7 @@ use Rattle.format.specs.Answers.{answerOf, answered, runHeld, cost, costFrom, s
 use Rattle.format.proofs.Tests.{clash}
 use Rattle.format.proofs.Cuts.{joined}
 use Rattle.format.proofs.Pieces.{answerIn, takenIn, fedBy, fedPieces, tally, taken-pieces, run-still, taken-still}
-use Rattle.format.proofs.Placed.{RefusedBy, unknown, absent, unfinished, external, undated, invalid, deep, full, astrays}
+use Rattle.format.proofs.Placed.{unknown, absent, unfinished, external, undated, invalid, deep, full, astrays}
 use Rattle.promises.proofs.Stands.{Stands, waits, finishes, faulty, declines, passes, forgets, Any, every-any, stands-byte, stands-run}
 use Rattle.format.specs.Refusals as refusals
 pub use Rattle.format.specs.Claims.{lastByte}

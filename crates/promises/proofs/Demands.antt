@@ -1,7 +1,7 @@
 -- The three demands, sentence by sentence, each with its theorem. The proofs stand in crate format, beside the definitions that they speak of, and in this one.
 -- Where a theorem refuses a wrong program that keeps the others, it says so.
 use mathlib.Core.Path.{_≡_}
-use mathlib.Core.Bool.{true, false}
+use mathlib.Core.Bool.{true}
 use mathlib.Core.Logic.{_≢_}
 use mathlib.Core.List.{List, [], _∷_, _++_}
 use Prim.Native.Nat.{ℕ, suc, _+_, _/_, _^_, _≤_, _<_}
@@ -14,7 +14,7 @@ use Rattle.wire.specs.declared.Part.the-variants.{Whole}
 use Rattle.wire.specs.U29.{partOf}
 use Rattle.wire.specs.Word.{sizeOf}
 use Rattle.utf8.specs.States.{stepOf}
-use Rattle.rows.specs.Memory.{rowWidth, spanWidth, loanRows, loanStore, loanStrings, loanObjects}
+use Rattle.rows.specs.Memory.{spanWidth, loanRows, loanStore, loanStrings, loanObjects}
 use Rattle.rows.specs.Memory.{Memory, fresh, zeroed, faultOf, rowsFault, messageLimit, openLimit, noKey, colKind, colBodyBegin, colBodySize, rowsIn, col}
 use Rattle.format.specs.Refusals as no
 use Rattle.format.specs.declared.Answer.{Answer}
@@ -33,7 +33,7 @@ use Rattle.format.specs.RowTest.{tested}
 use Rattle.format.specs.Writing.{written, unwritten, writing}
 use Rattle.wire.specs.Octets.{Bytes}
 use Rattle.format.specs.Claims.{joined, answerIn, takenIn, untaken, fedBy, fedPieces, tally, untook, endBy, endRead, unread, firstNumbers, refusedNumbers}
-use Rattle.format.specs.Claims.{lostNumbers, placeOf, lastByte, Named, BeginSays, FeedSays, EndSays, ReadSays, WriteRefuses, WriteSays, readAnswer, writeAnswer}
+use Rattle.format.specs.Claims.{lostNumbers, placeIn, lastByte, Named, BeginSays, FeedSays, EndSays, ReadSays, WriteRefuses, WriteSays, readAnswer, writeAnswer}
 use Rattle.format.specs.Claims.{Going, FeedLeaves, EndLeaves, Feeds, usedRows, Shallow, Returns, Held-just, Passes, Wide, Again, NoShorter, Roomy, widened, beyond}
 use Rattle.format.specs.Claims.{extra, used, RefusedWith, RowNew, TextKind}
 use Rattle.format.specs.Byte.{Decided-by}
@@ -46,6 +46,8 @@ use Rattle.format.proofs.Feeding as feeding
 use Rattle.format.proofs.Cuts as cuts
 use Rattle.format.proofs.Pieces as pieces
 use Rattle.format.proofs.Unique as unique
+use Rattle.format.proofs.Meant as meant
+use Rattle.format.proofs.Least as least
 use Rattle.format.proofs.Wiped as wiped
 use Rattle.meaning.proofs.Meaning as meaning
 use Rattle.meaning.proofs.Finished as tables
@@ -59,7 +61,6 @@ use Rattle.meaning.proofs.Exactly as exactly
 use Rattle.meaning.proofs.Trip as trip
 use Rattle.promises.proofs.Decides as decides
 use Rattle.promises.proofs.Answered as answered
-use Rattle.promises.proofs.Meant as meant
 use Rattle.promises.proofs.Together as together
 use Rattle.promises.proofs.Strays as strays
 use Rattle.promises.proofs.Holding as holding
@@ -68,7 +69,6 @@ use Rattle.promises.proofs.Appears as appears
 use Rattle.promises.proofs.Ranges as ranges
 use Rattle.promises.proofs.Ample as ample
 use Rattle.promises.proofs.Ties as ties
-use Rattle.promises.proofs.Least as least
 use Rattle.promises.proofs.Roomy as roomy
 use Rattle.promises.proofs.Trips as trips
 
@@ -150,7 +150,7 @@ lost-strays = strays.lost-strays
 
 -- whatever the state, a new refusal's place is the place of the byte that it was decided by
 pub feed-places : (state : Numbers) (m : Memory) (b : ℕ) (bs : List ℕ) → Going (stateOf state m)
-    → Feeds (placeOf (stateOf state m)) (b ∷ bs) (answerIn (feedCall state m (b ∷ bs)))
+    → Feeds (placeIn (stateOf state m)) (b ∷ bs) (answerIn (feedCall state m (b ∷ bs)))
 feed-places = answered.feed-going
 
 -- of two refusals that are due at one byte, on any state whose head holds together: 11 comes before the byte is looked at
@@ -172,7 +172,7 @@ marker-deep = order.marker-deep
 -- then 10 for rows
 pub marker-full : (state : Numbers) (m : Memory) (b : ℕ) (bs : List ℕ) (k : Key) (ts : List Frame) (c : Cursor) → stateOf state m ≡ wait (atMarker k) ts c m
     → Together (state .head .lent) (atMarker k) ts c m → b < 2 ^ 8 → c .at < messageLimit → b ≤ 0x11 → length ts < openLimit
-    → length (m .rows) / rowWidth ≤ c .rows → RefusedWith state m (b ∷ bs) no.noRoom loanRows (suc (c .at)) 1
+    → rowsIn (m .rows) ≤ c .rows → RefusedWith state m (b ∷ bs) no.noRoom loanRows (suc (c .at)) 1
 marker-full = order.marker-full
 
 -- at the last byte of a literal object's word the objects' room, before all that follows

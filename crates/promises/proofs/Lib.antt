@@ -12,8 +12,6 @@ pub mod Counted
 pub mod Decides
 pub mod Answered
 pub mod Ranges
--- What the numbers of a state mean.
-pub mod Meant
 -- Where a state holds together, a byte is refused by 12 exactly where what it looks up strays.
 pub mod Together
 pub mod Verdicts
@@ -27,8 +25,6 @@ pub mod Appears
 pub mod Trips
 -- What each call is of.
 pub mod Ties
-pub mod Faults
-pub mod Least
 -- The demands, and wrong programs that each breaks.
 pub mod Demands
 pub mod Refuted

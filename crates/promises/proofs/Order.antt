@@ -1,19 +1,19 @@
 -- Which refusal comes first, on any waiting state whose head holds together: 11 before the byte is looked at; at a marker 3, 9, then 10 for rows; at a literal object
 -- the objects' room, then the store's; at a text's last byte 8, then the strings' room.
-use mathlib.Core.Path.{_≡_, refl, sym, ap, _∙_}
-use mathlib.Core.Bool.{Bool, true, false, cond, _&&_}
+use mathlib.Core.Path.{_≡_, refl, ap, _∙_}
+use mathlib.Core.Bool.{true, false}
 use mathlib.Core.Logic.{_≢_}
 use mathlib.Core.List.{List, [], _∷_}
 use Prim.Native.Nat.{ℕ, zero, suc, _+_, _*_, _-_, _/_, _^_, _≤_, _<_}
 use native.Mathlib.Nat.{add-zero, le-refl}
 use native.Mathlib.Omega.{arith}
-use borrow.Author.Tests.{lt-ltb, le-ltb, le-leb, lt-leb, eq-eqb, ne-eqb}
-use lib.Dec.{T, leb, ltb, eqb}
+use borrow.Author.Tests.{lt-ltb, le-ltb, le-leb, lt-leb, ne-eqb}
+use lib.Dec.{T, ltb, eqb}
 use lib.ListN.{length, set, length-set}
 use Rattle.rows.specs.declared.Cursor.{Cursor}
 use Rattle.rows.specs.declared.Span.{Span}
 use Rattle.rows.specs.declared.Key.{Key}
-use Rattle.rows.specs.Memory.{Memory, memory, zeroed, messageMost, messageLimit, openMost, openLimit, rowWidth, spanWidth, loanRows, loanStore, loanStrings, loanObjects}
+use Rattle.rows.specs.Memory.{Memory, memory, zeroed, messageLimit, openLimit, rowWidth, spanWidth, loanRows, loanStore, loanStrings, loanObjects}
 use Rattle.wire.specs.declared.Part.the-variants.{Whole}
 use Rattle.wire.specs.declared.Size.{Size}
 use Rattle.wire.specs.declared.Size.the-variants.{Old, New}
@@ -24,19 +24,18 @@ use Rattle.wire.specs.Word.{sizeOf, shapeOf}
 use Rattle.utf8.specs.States.{stepOf}
 use Rattle.format.specs.declared.Answer.the-variants.{Refused}
 use Rattle.format.specs.declared.Frame.{Frame}
-use Rattle.format.specs.Reading.{refused, refusal, taken}
+use Rattle.format.specs.Reading.{refused, taken}
 use Rattle.format.specs.Decide.{give, refuse, objectsTo, marker, entered, reserved, stored, textEnd, judged, widthOf, xml, date, array, bytes, raw, objects, dictionary, Body}
 use Rattle.format.specs.Step.{Word, integerWord, objectWord, sizeWord, textWord, Text, xmlText, tableText, Use, Mode, atMarker, atWord, atText, State, wait, over}
 use Rattle.format.specs.Step.{worded, bodySized, objectShaped, stringSized, opened, roomy, textDone, act, step}
-use Rattle.format.specs.Numbers.{Numbers, Held, held, stateOf, numbersOf, lentOf, sound, soundStep, afterStep, byteStep}
-use Rattle.format.specs.Answers.{fed, answered, runHeld, cost, costFrom, stateIn, takenBy, feedCall}
+use Rattle.format.specs.Numbers.{Numbers, held, stateOf, numbersOf, lentOf, soundStep, afterStep, byteStep}
+use Rattle.format.specs.Answers.{fed, runHeld, cost, takenBy, feedCall}
 use Rattle.format.specs.Claims.{refusedNumbers, RefusedWith}
 use Rattle.format.specs.Limits.{asked, NewSize, NewShape, Enters}
-use Rattle.format.specs.Together.{Together, Counts, WordIn, TextIn}
+use Rattle.format.specs.Together.{Together, Counts, WordIn}
 use Rattle.format.specs.declared.Lent.{Lent}
-use Rattle.format.specs.Codes.{statusWaiting, statusFinished, statusRefused}
 use Rattle.format.specs.Refusals as no
-use Rattle.format.proofs.Tests.{on-bool, is-true}
+use Rattle.format.proofs.Tests.{is-true}
 use Rattle.format.proofs.Pieces.{run-still, taken-still}
 use Rattle.promises.proofs.Stands.{long-said, able-act, able-says}
 use Rattle.promises.proofs.Together.{together-sound}

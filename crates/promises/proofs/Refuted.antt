@@ -7,7 +7,7 @@ use mathlib.Core.List.{List, [], _∷_}
 use Prim.Native.Nat.{ℕ, zero, suc, _+_, _*_, _^_, _≤_, _<_}
 use native.Mathlib.Omega.{arith}
 use native.Mathlib.Nat.{le-refl}
-use lib.Dec.{T, lit≤, ltb}
+use lib.Dec.{lit≤, ltb}
 use borrow.Author.Tests.{ltb-true}
 use lib.ListN.{length, replicate}
 use Rattle.rows.specs.declared.Cursor.{Cursor}
@@ -19,7 +19,7 @@ use Rattle.utf8.specs.States as x
 use Rattle.utf8.specs.Grammar as g
 use Rattle.format.specs.Refusals as no
 use Rattle.format.specs.declared.Answer.{Answer}
-use Rattle.format.specs.declared.Answer.the-variants.{Waiting, Finished, Refused}
+use Rattle.format.specs.declared.Answer.the-variants.{Waiting, Refused}
 use Rattle.format.specs.declared.Frame.{Frame}
 use Rattle.format.specs.Reading.{Ended, ResultOf, finished, refused, ok, reading}
 use Rattle.format.specs.Step.{Mode, wait, none}
@@ -35,7 +35,7 @@ use Rattle.format.specs.Together.{Together}
 use Rattle.format.specs.Strays.{Strays}
 use Rattle.format.specs.Byte.{RefusedBy}
 use Rattle.format.specs.Byte as byte
-use Rattle.format.specs.Claims.{answerIn, readAnswer, placeOf, lostNumbers, Going, FeedSays, ReadSays, Refuses, Feeds, Returns, NoShorter, widened, beyond, extra}
+use Rattle.format.specs.Claims.{answerIn, readAnswer, placeIn, lostNumbers, Going, FeedSays, ReadSays, Refuses, Feeds, Returns, NoShorter, widened, beyond, extra}
 use Rattle.format.specs.Claims as claims
 use Rattle.format.specs.Limits.{Accord}
 use Rattle.format.specs.Limits as limits
@@ -182,13 +182,13 @@ refused-at part q n told place (claims.stray h) l f = absurd (l refl)
 
 -- 9 and 10 that take no byte, though their place counts it
 module _ (feeds : Numbers → Memory → List ℕ → Fed)
-    (places : (state : Numbers) (m : Memory) (b : ℕ) (bs : List ℕ) → Going (stateOf state m) → Feeds (placeOf (stateOf state m)) (b ∷ bs) (answerIn (feeds state m (b ∷ bs)))) where
+    (places : (state : Numbers) (m : Memory) (b : ℕ) (bs : List ℕ) → Going (stateOf state m) → Feeds (placeIn (stateOf state m)) (b ∷ bs) (answerIn (feeds state m (b ∷ bs)))) where
   pub limit-takes-no-byte : (state : Numbers) (m : Memory) (b : ℕ) (bs : List ℕ) → Going (stateOf state m) → (n told : ℕ) → n ≢ no.lost → n ≢ no.tooLong
-      → answerIn (feeds state m (b ∷ bs)) ≢ Refused n told (suc (placeOf (stateOf state m))) 0
+      → answerIn (feeds state m (b ∷ bs)) ≢ Refused n told (suc (placeIn (stateOf state m))) 0
   limit-takes-no-byte state m b bs going n told l f e = of (answerIn (feeds state m (b ∷ bs))) (places state m b bs going) e
     where
       p : ℕ
-      p = placeOf (stateOf state m)
+      p = placeIn (stateOf state m)
 
       of : (a : Answer) → Feeds p (b ∷ bs) a → a ≡ Refused n told (suc p) 0 → ⊥
       of a (claims.awaits h) e = clash cc

@@ -27,7 +27,7 @@ use Rattle.format.proofs.Placed as placed
 use Rattle.format.specs.Claims.{Going, waiting, unbegun}
 use Rattle.format.specs.Refusals as refusals
 use Rattle.rows.specs.Memory.{loanRows, loanNames}
-pub use Rattle.format.specs.Claims.{placeOf}
+pub use Rattle.format.specs.Claims.{placeIn}
 
 -- ---- a state, `at` bytes taken; `Begun` is known where the beginning refused it, `Byte` of a byte that was refused
 
@@ -190,13 +190,13 @@ stands-run h (b ∷ bs) (next y ys) w = rw (← add-assoc) (stands-run (byteStep
 
 -- a byte on a state that has not ended
 going-stepped : {Byte : ℕ → Type 0} (b : ℕ) (n : Numbers) (m : Memory) (s : State) → Byte b → Going s
-    → Stands ⊥ Byte (placeOf s + costFrom s (stateIn (stepped n m b s))) (stateIn (stepped n m b s))
+    → Stands ⊥ Byte (placeIn s + costFrom s (stateIn (stepped n m b s))) (stateIn (stepped n m b s))
 going-stepped b n m s y (waiting {x = x} {ts = ts} {c = c} {m = k}) = after-sound b n x ts c k y
 going-stepped b n m s y (unbegun {m = k}) = after-none 0 b n k y
 
 -- whatever the numbers and the loans, after one byte or more
 pub stands-going : {Byte : ℕ → Type 0} (h : Held) (b : ℕ) (bs : List ℕ) → Every Byte (b ∷ bs) → Going (stateIn h)
-    → Stands ⊥ Byte (placeOf (stateIn h) + takenBy h (b ∷ bs)) (stateIn (runHeld h (b ∷ bs)))
+    → Stands ⊥ Byte (placeIn (stateIn h) + takenBy h (b ∷ bs)) (stateIn (runHeld h (b ∷ bs)))
 unfolding runHeld takenBy byteStep
 stands-going (held n m) b bs (next y ys) g =
     rw (← add-assoc) (stands-run (byteStep b (held n m)) bs ys (going-stepped b n m (stateOf n m) y g))

@@ -2,9 +2,8 @@
 use mathlib.Core.Path.{_≡_, refl, sym, ap, _∙_}
 use mathlib.Core.Bool.{true}
 use mathlib.Core.List.{List, [], _∷_}
-use Prim.Native.Nat.{ℕ, _^_, _≤_, _<_}
+use Prim.Native.Nat.{ℕ, _^_, _<_}
 use lib.Dec.{eqb}
-use lib.ListN.{length}
 use borrow.Author.Tests.{eqb-true}
 use Rattle.rows.specs.declared.Cursor.{Cursor}
 use Rattle.rows.specs.Memory.{Memory, faultOf, zeroed, messageLimit}
@@ -16,9 +15,7 @@ use Rattle.format.specs.Step.{Mode, wait, over, act}
 use Rattle.format.specs.Numbers.{Numbers, stateOf, lentOf, sameLent, modeFits, pairsFit, sound}
 use Rattle.format.specs.Answers.{fed, feedCall}
 use Rattle.format.proofs.Tests.{on-bool, both, clash}
-use Rattle.format.proofs.Used.{Counts, ModeIn, PairsIn}
 use Rattle.format.proofs.Kept.{faultIn}
-use Rattle.format.proofs.Along.{Fits}
 use Rattle.format.proofs.Shows.{sound-holds, pairs-sound, good-sound, good-waits}
 use Rattle.format.proofs.Pieces.{answerIn}
 use Rattle.format.specs.Claims.{waiting}

@@ -4,10 +4,10 @@ use mathlib.Core.Path.{_≡_, ap, _∙_}
 use mathlib.Core.Bool.{Bool, true, false, cond, not}
 use mathlib.Core.List.{List, [], _∷_, _++_, append-nil}
 use mathlib.Core.Option.{none, some}
-use Prim.Native.Nat.{ℕ, zero, suc, _+_, _*_, _^_, _<_}
+use Prim.Native.Nat.{ℕ, zero, suc, _+_, _^_, _<_}
 use lib.Dec.{eqb, lit<}
 use lib.ListN.{getD, take, drop}
-use Rattle.rows.specs.Memory.{Memory, faultOf, rowWidth, colKind, colBodyBegin, colBodySize, colCount, colCount2, colEnd, colNumber, colClassMark, rowsIn, col}
+use Rattle.rows.specs.Memory.{Memory, faultOf, colKind, colBodyBegin, colBodySize, colCount, colCount2, colEnd, colNumber, colClassMark, rowsIn, col}
 use Rattle.wire.specs.U29.{u29}
 use Rattle.wire.specs.Big.{bytesOf}
 use Rattle.wire.proofs.Octets.{Bytes}
@@ -22,10 +22,9 @@ use Rattle.format.specs.Unfold.{part, bodyOf, classText, flagSet, home, after, 
 use Rattle.format.specs.Holds.{canHold}
 use Rattle.format.specs.Reading.{reading}
 use Rattle.format.specs.Writing.{Wrote, written, unwritten, writing}
-use Rattle.format.specs.Answers.{beginCall, read, readOf, readCall, output, writtenOf, writeCall}
+use Rattle.format.specs.Answers.{read, readOf, readCall, output, writtenOf, writeCall}
 use Rattle.format.proofs.Tests.{clash}
-use Rattle.format.proofs.Cuts.{joined}
-use Rattle.format.proofs.Pieces.{fedPieces, tally, endBy, endRead, unread, feeding-calls, taken-calls}
+use Rattle.format.proofs.Pieces.{unread, feeding-calls, taken-calls}
 use Rattle.meaning.proofs.Writes.{accepted, reported}
 use Rattle.meaning.proofs.Again.{Wide}
 use Rattle.meaning.proofs.Trip.{Returns, round-trip}

@@ -2,29 +2,28 @@
 use mathlib.Core.Path.{_≡_, refl, sym, ap, _∙_}
 use mathlib.Core.Bool.{Bool, true, false, cond, _&&_}
 use mathlib.Core.Logic.{_≢_}
-use mathlib.Core.List.{List, [], _∷_}
-use Prim.Native.Nat.{ℕ, zero, suc, _+_, _*_, _≤_, _<_}
+use mathlib.Core.List.{List, []}
+use Prim.Native.Nat.{ℕ, zero, suc, _≤_, _<_}
 use native.Mathlib.Omega.{arith}
 use borrow.Author.Tests.{eqb-true, leb-true, leb-false, le-leb, eq-eqb}
-use lib.Dec.{T, leb, eqb, lit≤}
-use lib.ListN.{length, getD}
+use lib.Dec.{leb, eqb, lit≤}
+use lib.ListN.{length}
 use Rattle.rows.specs.Memory.{Memory, rowsMost, storeMost}
-use Rattle.format.specs.declared.Frame.{Frame}
 use Rattle.format.specs.declared.Work.{Work}
 use Rattle.format.specs.Codes.{statusWaiting, statusFinished, statusRefused, modeMarker, modeWord, modeNumber, modeFlag, modeText}
 use Rattle.format.specs.Codes.{modeRaw, purposeInteger, purposeDouble, purposeObject, purposeDateBits, purposeXml, purposeDate, purposeArray}
 use Rattle.format.specs.Codes.{purposeByteArray, purposeFours, purposeEights, purposeObjectVector, purposeDictionary, purposeString, purposeKey, purposeDynamicKey}
 use Rattle.format.specs.Codes.{purposeClass, purposeExternal, purposeName, purposeVectorClass}
 use Rattle.format.specs.Decide.{Width, Body, xml, date, array, bytes, raw, objects, dictionary, four, eight}
 use Rattle.format.specs.Claims.{Lendable}
 use Rattle.format.specs.Step.{Use, Mode, atWord, atNumber, atFlag, atText, atRaw, astray, wait}
 use Rattle.format.specs.Numbers.{Numbers, frameAt, framesOf, withBody, withUse, withWord, withNumber, withFlag, withText, withRaw, modeOf, finishable, stateOf}
 use Rattle.format.specs.Meant.{BodyMeant, ofXml, ofDate, ofArray, ofByteArray, ofFours, ofEights, ofObjectVector, ofDictionary}
 use Rattle.format.specs.Meant.{UseMeant, ofString, ofKey, ofDynamicKey, ofClass, ofExternal, ofName, ofVectorClass}
 use Rattle.format.specs.Meant.{ModeMeant, marker, integers, objectWords, sizes, strings, doubles, dates, rawFlags, vectorFlags, dictionaryFlags, xmlTexts, texts}
-use Rattle.format.specs.Meant.{byteArrays, rawVectors, FrameMeant, FramesMeant, StateMeant, waits, strays, finishes, refuses, unbegun}
+use Rattle.format.specs.Meant.{byteArrays, rawVectors, FramesMeant, StateMeant, waits, strays, finishes, refuses, unbegun}
 use Rattle.format.specs.Refusals as no
 use Rattle.format.proofs.Tests.{on-bool, is-true, both, clash}
 
 -- ---- codes
 

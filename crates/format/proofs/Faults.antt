@@ -1,26 +1,26 @@
 -- The tests of a row fail exactly for document 01's reasons.
-use mathlib.Core.Path.{_≡_, refl, sym, _∙_}
+use mathlib.Core.Path.{_≡_, refl}
 use mathlib.Core.Bool.{Bool, true, false, cond, not, _&&_, _||_}
 use mathlib.Core.Logic.{_≢_}
 use mathlib.Core.List.{List}
 use Prim.Native.Nat.{ℕ, zero, suc, _+_, _*_, _-_, _^_, _≤_, _<_}
 use native.Mathlib.Omega.{arith}
 use native.Mathlib.Decide.{ℕ-discrete}
-use borrow.Author.Tests.{leb-true, leb-false, ltb-true, ltb-false, eqb-true, eq-eqb, ne-eqb, lt-ltb, le-ltb, le-leb, lt-leb}
+use borrow.Author.Tests.{leb-true, leb-false, ltb-true, ltb-false, eqb-true, eq-eqb, ne-eqb, le-ltb, lt-leb}
 use lib.Dec.{leb, ltb, eqb, lit≤}
 use lib.ListN.{length}
 use Rattle.rows.specs.Memory.{rowsIn, col, colKind, colKeyMark, colKeyBegin, colKeySize, colBodyBegin, colBodySize, colClassMark, colFlag, colNumber, colCount}
 use Rattle.rows.specs.Memory.{colCount2, colEnd}
 use Rattle.rows.specs.Kinds.{kindUndefined, kindBoolean, kindInteger, kindDate, kindObject, kindObjectVector, kindIntVector, kindUintVector, kindDoubleVector, kindReference}
 use Rattle.utf8.specs.Grammar.{validText}
 use Rattle.format.specs.Standard.{isStar}
 use Rattle.format.specs.Unfold.{bodyOf, keyText}
 use Rattle.format.specs.RowTest.{hasText, hasBody, hasClass, hasFlag, hasNumber, hasCount, hasCount2, isObject, isRaw, spanFits, markFits, meant, columnsFit, signedFits}
 use Rattle.format.specs.RowTest.{valueFits, children, closes, Given, keyless, anyKey, fullKey, given, markOf, isFilled, wellFormed, numberWritable, bodyWritable, keyWritable}
 use Rattle.format.specs.RowTest.{writable}
 use Rattle.format.specs.Faults.{BadSpan, past, emptyPast, BadMark, noMark, unmarked, marked, Outside, between, beyond, Malformed, Unwritable}
 use Rattle.format.specs.Faults as why
 use Rattle.format.proofs.Tests.{on-bool, both, neither, clash}
 
 -- ---- tests
 

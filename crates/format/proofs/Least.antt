@@ -1,17 +1,17 @@
 -- Which row a test of rows tells: the first that doesn't pass, by 13 before 14.
 use mathlib.Core.Path.{_≡_}
-use mathlib.Core.Bool.{true, false}
+use mathlib.Core.Bool.{false}
 use mathlib.Core.List.{List}
 use Prim.Native.Nat.{ℕ, zero, suc, _+_, _<_}
 use native.Mathlib.Omega.{arith}
 use borrow.Author.Tests.{eqb-true}
 use lib.Dec.{eqb}
 use Rattle.rows.specs.Memory.{rowsIn}
 use Rattle.format.specs.RowTest.{wellFormed, writable, testFrom, tested}
 use Rattle.format.specs.Endings.{RowPasses, AllPass, TestSays, allPass, noRows, firstMalformed, firstUnwritable}
 use Rattle.format.proofs.Tests.{on-bool, clash}
 use Rattle.format.proofs.Lists.{last-or}
-use Rattle.promises.proofs.Faults.{malformed, well-formed, unwritable, can-write}
+use Rattle.format.proofs.Faults.{malformed, well-formed, unwritable, can-write}
 
 module _ (R B : List ℕ) where
   -- n rows from row i, where those before it pass
