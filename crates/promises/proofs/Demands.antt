@@ -1,4 +1,4 @@
--- The three demands, sentence by sentence, each with its theorem. The proofs stand in crate format, beside the definitions that they speak of, and in this one.
+-- The three demands, sentence by sentence, each with its theorem. The proofs stand in the crates format, beside the definitions, and meaning, and in this one.
 -- Where a theorem refuses a wrong program that keeps the others, it says so.
 use mathlib.Core.Path.{_≡_}
 use mathlib.Core.Bool.{true}
