@@ -9,13 +9,13 @@ use native.Mathlib.Nat.{mul-comm}
 use native.Mathlib.Numerals.{add-one}
 use borrow.Author.Tests.{ltb-true, leb-true, eqb-true, lt-ltb, le-ltb, not-true}
 use lib.Dec.{leb, ltb, eqb, lit<}
-use lib.IntN.{pos, negsuc}
 use lib.ListN.{length, getD}
 use lib.Signed.{mag}
 use Rattle.rows.specs.Memory.{rowWidth, colKind, colKeyBegin, colKeySize, colBodyBegin, colBodySize, rowsIn, col}
 use Rattle.rows.specs.Memory.{colClassMark, colNumber, colCount, colCount2, colEnd, faultOf, memory}
 use Rattle.rows.specs.Kinds.{kindInteger, kindDate, kindArray, kindObject, kindObjectVector, kindDictionary}
 use Rattle.wire.specs.Sign.{ofColumn}
+use Rattle.wire.proofs.Sign.{signed-low, signed-high}
 use Rattle.utf8.specs.Grammar.{validText}
 use Rattle.format.specs.Standard.{Tree, array, object, objectVector, dictionary, count, countPairs, countEntries, isStar}
 use Rattle.format.specs.Unfold.{part, bodyOf, keyText, classText, flagSet, home, after, treesAt, pairsAt, entriesAt, node, treeAt}
@@ -53,14 +53,14 @@ pub column-small : (n : ℕ) → signedFits 28 n ≡ true → mag (ofColumn n) <
 unfolding signedFits ofColumn
 column-small n e = by (ltb n (2 ^ 28)) refl e
   where
-    by : (t : Bool) → ltb n (2 ^ 28) ≡ t → (t || (leb (2 ^ 64 - 2 ^ 28) n && ltb n (2 ^ 64))) ≡ true
-        → mag (cond (ltb n (2 ^ 63)) (pos n) (negsuc (2 ^ 64 - suc n))) < 2 ^ 28
+    by : (t : Bool) → ltb n (2 ^ 28) ≡ t → (t || (leb (2 ^ 64 - 2 ^ 28) n && ltb n (2 ^ 64))) ≡ true → mag (ofColumn n) < 2 ^ 28
     by true l e =
         let h : n < 2 ^ 28 = ltb-true n (2 ^ 28) l in
-        rw (lt-ltb n (2 ^ 63) (omega arith)) h
+        rw (signed-low 63 n (omega arith)) h
     by false l e =
-        let h : 2 ^ 64 - 2 ^ 28 ≤ n = leb-true (2 ^ 64 - 2 ^ 28) n (both (leb (2 ^ 64 - 2 ^ 28) n) (ltb n (2 ^ 64)) e .0) in
-        rw (le-ltb n (2 ^ 63) (omega arith)) (omega arith)
+        let h = both (leb (2 ^ 64 - 2 ^ 28) n) (ltb n (2 ^ 64)) e in
+        let least : 2 ^ 64 - 2 ^ 28 ≤ n = leb-true (2 ^ 64 - 2 ^ 28) n (h .0) in
+        rw (signed-high 63 n (omega arith) (ltb-true n (2 ^ 64) (h .1))) (omega arith)
 
 module _ (R B : List ℕ) (few : rowsIn R ≤ rowsMost) (small : length B ≤ storeMost) (rows : (i : ℕ) → i < rowsIn R → Row R B i)
     (words : (i : ℕ) → getD R i 0 < 2 ^ 64) where

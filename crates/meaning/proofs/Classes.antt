@@ -2,17 +2,20 @@
 use mathlib.Core.Path.{_≡_, refl}
 use mathlib.Core.Bool.{Bool, true, false, cond}
 use mathlib.Core.List.{List, [], _∷_}
-use Prim.Native.Nat.{ℕ, suc, _+_, _-_, _^_, _%_, _<_, _≤_}
+use Prim.Native.Nat.{ℕ, suc, _+_, _-_, _^_, _<_, _≤_}
 use native.Mathlib.Omega.{arith}
-use borrow.Author.Tests.{lt-ltb, le-leb, ltb-false, eqb-true, eqb-false}
+use borrow.Author.Tests.{lt-ltb, le-leb, eqb-true, eqb-false}
 use lib.Dec.{ltb, eqb}
+use lib.IntN.{ℤ, pos, negsuc}
 use lib.ListN.{length, getD}
 use lib.Seq.{drop-cons}
+use lib.Signed.{mag}
 use Rattle.rows.specs.declared.Cursor.{Cursor}
 use Rattle.rows.specs.declared.Span.{Span}
 use Rattle.rows.specs.declared.Trait.{Trait}
 use Rattle.rows.specs.Memory.{noSpan, span, put}
 use Rattle.wire.specs.Sign.{integerOf, columnOf}
+use Rattle.wire.proofs.Sign.{bits-low, bits-high, integer-remainder}
 use Rattle.format.specs.Standard.{isStar}
 use Rattle.format.specs.Decide.{classOf, objectClass, vectorClass}
 use Rattle.format.specs.Unfold.{part}
@@ -26,13 +29,15 @@ use Rattle.meaning.proofs.Posts.{wp-classed, Gives}
 -- ---- numbers
 
 -- an integer of 29 bits, in a column of 64
+signed-fits : (v : ℤ) → mag v < 2 ^ 28 → signedFits 28 (columnOf v) ≡ true
+unfolding signedFits columnOf
+signed-fits (pos n) l = rw (bits-low 63 n (omega arith), lt-ltb n (2 ^ 28) l)
+signed-fits (negsuc n) l =
+    rw (bits-high 63 n (omega arith), le-leb (2 ^ 64 - 2 ^ 28) (2 ^ 64 - suc n) (omega arith), lt-ltb (2 ^ 64 - suc n) (2 ^ 64) (omega arith))
+    (or-true (ltb (2 ^ 64 - suc n) (2 ^ 28)))
+
 pub signed-column : (w : ℕ) → signedFits 28 (columnOf (integerOf w)) ≡ true
-unfolding signedFits columnOf integerOf
-signed-column w = on-bool (ltb (w % 2 ^ 29) (2 ^ 28))
-    (λ e. rw (e, e))
-    (λ e. let l = ltb-false (w % 2 ^ 29) (2 ^ 28) e in
-    rw (e, le-leb (2 ^ 64 - 2 ^ 28) (2 ^ 64 - suc (2 ^ 29 - suc (w % 2 ^ 29))) (omega arith), lt-ltb (2 ^ 64 - suc (2 ^ 29 - suc (w % 2 ^ 29))) (2 ^ 64) (omega arith))
-    (or-true (ltb (2 ^ 64 - suc (2 ^ 29 - suc (w % 2 ^ 29))) (2 ^ 28))))
+signed-column w = signed-fits (integerOf w) (integer-remainder w .0)
 
 -- ---- classes
 

@@ -8,5 +8,6 @@ pub mod Room
 pub mod Round
 pub mod Shift
 pub mod Sign
+pub mod Steps
 pub mod U29
 pub mod Word

@@ -181,31 +181,36 @@ pub fn shape_of(w: usize) -> Shape
 
 // ---- sign
 
-// The integer in the low 29 bits of `n`.
+// The sign rule: the 29 bits of an integer are its remainder modulo 2^29.
+const MODULUS: usize = 0x2000_0000;
+
+// One half of the remainders is of integers from 0 up, the other of those below 0.
+const HALF: usize = 0x1000_0000;
+
+// The ends of the range.
+const LEAST: i64 = -0x1000_0000;
+
+const GREATEST: i64 = 0x0fff_ffff;
+
+// The integer in the low 29 bits of `n`: the number from LEAST to GREATEST of which they are the remainder.
 pub fn integer(n: usize) -> i64
     ensures { λ r. ⌜ r ≡ integerOf n ⌝ }
 {
-    let low = n & 0x1fff_ffff;
-    if low < 0x1000_0000 {
-        return low as i64;
-    }
-    (low as i64) - 0x2000_0000
+    let turned = (n % MODULUS + HALF) % MODULUS;
+    (turned as i64) - (HALF as i64)
 }
 
-// The 29 bits of an integer.
+// The 29 bits of an integer: its remainder. A modulus is added to every number, so that none is negative; the remainder stays.
 pub fn integer_bits(v: i64) -> Bits
     ensures { λ r. ⌜ r ≡ bitsOf v ⌝ }
 {
-    if v < -0x1000_0000 {
+    if v < LEAST {
         return Bits::Outside;
     }
-    if 0x0fff_ffff < v {
+    if GREATEST < v {
         return Bits::Outside;
     }
-    if v < 0 {
-        return Bits::Of((v + 0x2000_0000) as usize);
-    }
-    Bits::Of(v as usize)
+    Bits::Of(((v + (MODULUS as i64)) as usize) % MODULUS)
 }
 
 // The column of a signed number.

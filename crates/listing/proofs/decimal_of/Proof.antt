@@ -1,10 +1,7 @@
 -- Made by proofs.py from answers/decimal_of.txt: change that file, not this one.
--- answers c2910f463a8f proof ebd4b680c4e4
+-- answers 6fdb54560fb5 proof 294041af10d6
 use native.Mathlib.Omega.{arith}
-use mathlib.Core.Path.{sym}
-use borrow.Author.Tests.{lt-ltb}
-use Rattle.wire.specs.Sign.{ofColumn}
-use Rattle.listing.proofs.Digits.{below-zero}
+use Rattle.listing.proofs.Digits.{below-zero, not-below-zero}
 use borrow.Author.Needs.{needs}
 use Rattle.listing.proofs.decimal_of.Statement.{statement}
 use Rattle.listing.proofs.decimal_of.Tie as tie
@@ -12,8 +9,7 @@ use Rattle.listing.proofs.decimal_of.Reads as reads
 use Rattle.listing.proofs.decimal_of.Lts as lts
 
 returns : tie.Need-returns
-unfolding ofColumn
-returns c = sym (simp (lt-ltb _ _ (c .if1 .taken)))
+returns c = not-below-zero (c .before .args .x) (omega arith)
 
 sub-t3 : tie.Need-sub-t3
 sub-t3 c = search needs

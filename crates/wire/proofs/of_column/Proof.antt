@@ -1,7 +1,7 @@
 -- Made by proofs.py from answers/of_column.txt: change that file, not this one.
--- answers 5ede406cd277 proof 2b808c9e18e5
+-- answers 2eae75da52de proof 35b61ca684f8
 use native.Mathlib.Omega.{arith}
-use Rattle.wire.proofs.Sign as sign
+use Rattle.wire.proofs.Steps as steps
 use borrow.Author.Needs.{needs}
 use Rattle.wire.proofs.of_column.Statement.{statement}
 use Rattle.wire.proofs.of_column.Tie as tie
@@ -12,7 +12,7 @@ cast-result : tie.Need-cast-result
 cast-result c = search needs
 
 returns : tie.Need-returns
-returns c = sign.column-clear (c .before .args .x) (omega arith)
+returns c = steps.column-clear (c .before .args .x) (omega arith)
 
 sub-below : tie.Need-sub-below
 sub-below c = search needs
@@ -21,10 +21,12 @@ cast-below : tie.Need-cast-below
 cast-below c = search needs
 
 sub-result : tie.Need-sub-result
-sub-result c = sign.held (sign.column-set (c .before .args .x) (omega arith)) (sign.column-fits (c .before .args .x) (c .before .fits .x .fits))
+sub-result c = steps.held (steps.column-set (c .before .args .x) (omega arith) (c .before .fits .x .fits)) (steps.column-fits (c .before .args .x)
+    (c .before .fits .x .fits))
 
 returns-2 : tie.Need-returns-2
-returns-2 c = sign.kept (sign.column-set (c .before .args .x) (omega arith)) (sign.column-fits (c .before .args .x) (c .before .fits .x .fits))
+returns-2 c = steps.kept (steps.column-set (c .before .args .x) (omega arith) (c .before .fits .x .fits)) (steps.column-fits (c .before .args .x)
+    (c .before .fits .x .fits))
 
 pub of-column-spec : {M : Type 1} → statement M
 of-column-spec =
