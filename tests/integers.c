@@ -98,7 +98,8 @@ static void try_outside(void) {
 
 int main(int words, char **word) {
     size_t step = words > 1 ? strtoul(word[1], NULL, 10) : STEP;
-    if (step == 0) return wrong("no step"), 1;
+    about("the first word");
+    if (step == 0) return wrong("no number from 1 up"), 1;
     for (size_t from = 0; from < MODULUS; from += STRETCH) count(stretch_right(from, step));
     try_outside();
     return tally();

@@ -13,7 +13,7 @@ use lib.IntN.{ℤ, pos, negsuc, natAbs, _+ℤ_, _-ℤ_}
 use lib.Signed.{mag, ltZ, nonNeg}
 use Rattle.wire.specs.Sign.{residue, bitsAt, integerOf, bitsOf, columnOf, ofColumn}
 use Rattle.wire.specs.declared.Bits.the-variants.{Outside}
-use Rattle.wire.proofs.Sign.{residue-turn, bits-low, bits-high, signed-low, signed-high, signed-lt, bits-outside}
+use Rattle.wire.proofs.Sign.{residue-turn, bits-low, bits-high, signed-low, signed-high, bits-outside, integer-remainder, column-remainder}
 
 -- what the code has of a number z
 abbrev pub i64 : ℤ → ℤ
@@ -120,8 +120,7 @@ module _ (n : ℕ) where
   turned-lt = mod-lt (n % 2 ^ 29 + 2 ^ 28) (lit< tt)
 
   pub integer-fits : mag (integerOf n) < 2 ^ 63
-  unfolding integerOf
-  integer-fits = omega (arith, signed-lt 28 (n % 2 ^ 29) (mod-lt n (lit< tt)))
+  integer-fits = omega (arith, integer-remainder n .0)
 
   pub integer-is : toZ w64 turned -ℤ pos (2 ^ 28) ≡ integerOf n
   unfolding integerOf
@@ -139,5 +138,4 @@ module _ (x : ℕ) where
       (ap negsuc (omega arith) ∙ sym (signed-high 63 x l g))
 
   pub column-fits : x < 2 ^ 64 → mag (ofColumn x) < 2 ^ 63
-  unfolding ofColumn
-  column-fits l = signed-lt 63 x l
+  column-fits l = column-remainder x l .0
