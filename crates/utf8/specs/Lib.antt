@@ -1,3 +1,4 @@
 pub mod Grammar
 pub mod States
+pub mod Tables
 pub mod Ladder
