@@ -78,6 +78,20 @@ fn objects() -> Vec<u8> {
     m
 }
 
+/// An array of texts, each of so many octets of one character, and the loans that just fit it.
+fn texts(name: &'static str, count: usize, character: char, octets: usize) -> Message {
+    let text = character.to_string().repeat(octets / character.len_utf8());
+    let mut m = vec![9];
+    size_word(&mut m, count);
+    m.push(1);
+    for _ in 0..count {
+        m.push(6);
+        size_word(&mut m, text.len());
+        m.extend(text.bytes());
+    }
+    (name, m, [count + 1, count * text.len(), count, 1, 0, 0])
+}
+
 fn clear(l: &mut Loans) {
     let n = l.lent;
     l.rows[..n[0]].fill(0);
@@ -163,7 +177,7 @@ fn processor_time() -> f64 {
 }
 
 /// An array whose items name texts of 65,535 bytes, beginning at 0 and at `other` in turn, into an output too small for one.
-fn texts(other: usize) -> f64 {
+fn named_texts(other: usize) -> f64 {
     let n = MOST[0];
     let mut rows = vec![0; n * COLUMNS];
     (rows[0], rows[10], rows[11]) = (9, n - 1, n);
@@ -180,14 +194,9 @@ fn texts(other: usize) -> f64 {
 /// A message, its name, and the loans that just fit it.
 type Message = (&'static str, Vec<u8>, [usize; 6]);
 
-fn main() {
-    let messages: [Message; 3] = [
-        ("a vector of 10,000 integers", integers(), [1, 40_000, 0, 1, 0, 0]),
-        ("an array of 2,000 strings of 8 bytes", strings(), [2_001, 16_000, 2_000, 1, 0, 0]),
-        ("200 objects of one trait, four members", objects(), [1_001, 1_300, 210, 201, 1, 4]),
-    ];
+/// Measures messages and prints a table of them.
+fn table(messages: &[Message]) {
     let rounds: Vec<Vec<Vec<Line>>> = (0..ROUNDS).map(|_| messages.iter().map(|(_, m, fit)| measure(m, *fit)).collect()).collect();
-    println!("Microseconds, each the median of {ROUNDS} rounds of {CALLS} calls.\n");
     let row = |cells: Vec<String>| println!("| {} |", cells.join(" | "));
     let of_each = |first: &str, of: &dyn Fn(usize) -> String| {
         let mut cells = vec![first.to_string()];
@@ -195,7 +204,7 @@ fn main() {
         row(cells)
     };
     of_each("", &|k| messages[k].0.to_string());
-    println!("|---|---|---|---|");
+    println!("|{}", "---|".repeat(messages.len() + 1));
     of_each("bytes of the message", &|k| messages[k].1.len().to_string());
     for (i, (name, _)) in rounds[0][0].iter().enumerate() {
         of_each(name, &|k| {
@@ -203,6 +212,24 @@ fn main() {
             format!("{:.1}", middle(times))
         });
     }
-    let (one, two) = (texts(0), texts(1));
-    println!("\nRows that name one text of 65,535 bytes, 16,383 times: refused after {one:.1} ms of processor time; two such texts in turn: {two:.0} ms.");
+    println!();
+}
+
+fn main() {
+    println!("Microseconds, each the median of {ROUNDS} rounds of {CALLS} calls.\n");
+    table(&[
+        ("a vector of 10,000 integers", integers(), [1, 40_000, 0, 1, 0, 0]),
+        ("an array of 2,000 strings of 8 bytes", strings(), [2_001, 16_000, 2_000, 1, 0, 0]),
+        ("200 objects of one trait, four members", objects(), [1_001, 1_300, 210, 201, 1, 4]),
+    ]);
+    table(&[
+        texts("1,000 texts of 12 octets, plain", 1_000, 'a', 12),
+        texts("two-octet", 1_000, '\u{e9}', 12),
+        texts("three-octet", 1_000, '\u{4e2d}', 12),
+        texts("one text of 60,000 octets, plain", 1, 'a', 60_000),
+        texts("two-octet", 1, '\u{e9}', 60_000),
+        texts("three-octet", 1, '\u{4e2d}', 60_000),
+    ]);
+    let (one, two) = (named_texts(0), named_texts(1));
+    println!("Rows that name one text of 65,535 bytes, 16,383 times: refused after {one:.1} ms of processor time; two such texts in turn: {two:.0} ms.");
 }
