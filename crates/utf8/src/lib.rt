@@ -42,21 +42,6 @@ fn moved(c: &Classes, m: &Moves, k: usize, b: u8) -> usize
     wide(m[k][class])
 }
 
-// The state after one byte. A number above the last state is as broken.
-pub fn step(k: usize, b: u8) -> usize
-    ensures { λ r. ⌜ r ≡ stepOf k b ⌝ }
-{
-    if k == BETWEEN && b < PAST_PLAIN {
-        return BETWEEN;
-    }
-    if BROKEN < k {
-        return BROKEN;
-    }
-    let c = CLASSES;
-    let m = MOVES;
-    moved(&c, &m, k, b)
-}
-
 // How many plain bytes stand first, between characters; from any other state none. What is left leads to the same state, so a plain piece needs no table.
 fn plain(k: usize, s: &[u8]) -> usize
     ensures { λ r. ⌜ (r ≤ length (now (s .entry))) × (foldOf k (drop r (now (s .entry))) ≡ foldOf k (now (s .entry))) ⌝ }
@@ -71,7 +56,7 @@ fn plain(k: usize, s: &[u8]) -> usize
     i
 }
 
-// The state after what is left of a piece from `from` on. The tables are named once, before the loop.
+// The state after what is left of a piece from `from` on. No other function names the tables, and this one does before its loop.
 fn run_on(k: usize, s: &[u8], from: usize) -> usize
     requires { ⌜ (k ≤ textBroken) × (from ≤ length (now s)) ⌝ }
     ensures { λ r. ⌜ r ≡ foldOf k (drop from (now (s .entry))) ⌝ }
@@ -90,6 +75,20 @@ fn run_on(k: usize, s: &[u8], from: usize) -> usize
         i += 1;
     }
     at
+}
+
+// The state after one byte, a piece of one. A number above the last state is as broken.
+pub fn step(k: usize, b: u8) -> usize
+    ensures { λ r. ⌜ r ≡ stepOf k b ⌝ }
+{
+    if k == BETWEEN && b < PAST_PLAIN {
+        return BETWEEN;
+    }
+    if BROKEN < k {
+        return BROKEN;
+    }
+    let one = [b];
+    run_on(k, &one, 0)
 }
 
 // The state after a piece.

@@ -1,5 +1,5 @@
 // RFC 3629, section 4, as two tables: the class of each octet, and the moves from state to state by class. They are the lists of specs/Tables.antt; that those are
-// the grammar's is shown in proofs/Classes.antt and Moves.antt. A function that names a table builds it at each call: name it once, and lend it.
+// the grammar's is shown in proofs/Classes.antt and Moves.antt. A function that names a table builds it at each call: it is named once, and lent.
 
 use crate::BROKEN;
 

@@ -35,9 +35,12 @@ loop-less : tie.Need-loop-less Inv-loop μ-loop
 loop-less c = search needs
 
 loop-again : tie.Need-loop-again Inv-loop μ-loop
-loop-again c = (omega arith, sym (fold-plain (c .before .before .before .before .before .args .k) (c .before .before .before .before .loop .i) _
-    (c .before .before .if1 .left) (c .before .before .before .loop-test .taken) (leb-false _ _ (c .if2 .left))) ∙
-    c .before .before .before .before .loop .inv .1)
+loop-again c = (
+  omega arith,
+  sym (fold-plain (c .before .before .before .before .before .args .k) (c .before .before .before .before .loop .i) _
+      (c .before .before .if1 .left) (c .before .before .before .loop-test .taken) (leb-false _ _ (c .if2 .left))) ∙
+      c .before .before .before .before .loop .inv .1,
+)
 
 returns-2 : tie.Need-returns-2 Inv-loop μ-loop
 returns-2 c = c .before .loop .inv

@@ -36,9 +36,13 @@ loop-less : tie.Need-loop-less Inv-loop μ-loop
 loop-less c = search needs
 
 loop-again : tie.Need-loop-again Inv-loop μ-loop
-loop-again c = (omega arith, c .before .before .before .before .loop .inv .1, c .before .before .before .before .loop .inv .2 ∙ fold-plain
-    (c .before .before .before .before .loop .at) (c .before .before .before .before .loop .i) _ (c .before .if1 .taken)
-    (c .before .before .before .loop-test .taken) (ltb-true _ _ (c .if2 .taken)))
+loop-again c = (
+  omega arith,
+  c .before .before .before .before .loop .inv .1,
+  c .before .before .before .before .loop .inv .2 ∙ fold-plain
+      (c .before .before .before .before .loop .at) (c .before .before .before .before .loop .i) _ (c .before .if1 .taken)
+      (c .before .before .before .loop-test .taken) (ltb-true _ _ (c .if2 .taken)),
+)
 
 moved-requires : tie.Need-moved-requires Inv-loop μ-loop
 moved-requires c κs =
@@ -54,12 +58,15 @@ loop-less-2 c = search needs
 loop-again-2 : tie.Need-loop-again-2 Inv-loop μ-loop
 loop-again-2 c =
     rw (c .moved .ensures ∙ looked-up (c .before .before .before .before .before .before .loop .at) (getD (now
-      (c .before .before .before .before .before .before .before .before .args .s)) (c .before .before .before .before .before .before .loop .i) 0)
-      (c .before .before .before .before .before .before .loop .inv .1) (c .before .before .before .before .shared-slice-known2 .given
-      (c .before .before .before .before .before .before .loop .i) .fits))
-    (omega arith, step-le _ _, c .before .before .before .before .before .before .loop .inv .2 ∙ fold-step
-      (c .before .before .before .before .before .before .loop .at) (c .before .before .before .before .before .before .loop .i) _
-      (c .before .before .before .before .before .loop-test .taken))
+    (c .before .before .before .before .before .before .before .before .args .s)) (c .before .before .before .before .before .before .loop .i) 0)
+    (c .before .before .before .before .before .before .loop .inv .1) (c .before .before .before .before .shared-slice-known2 .given
+    (c .before .before .before .before .before .before .loop .i) .fits)) (
+      omega arith,
+      step-le _ _,
+      c .before .before .before .before .before .before .loop .inv .2 ∙ fold-step
+          (c .before .before .before .before .before .before .loop .at) (c .before .before .before .before .before .before .loop .i) _
+          (c .before .before .before .before .before .loop-test .taken),
+    )
 
 returns : tie.Need-returns Inv-loop μ-loop
 returns c = sym (c .before .loop .inv .2 ∙ fold-end (c .before .loop .at) (c .before .loop .i) _ (omega arith))
