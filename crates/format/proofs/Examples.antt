@@ -26,6 +26,7 @@ use Rattle.format.specs.Unfold as v
 use Rattle.format.specs.RowTest as f
 use Rattle.format.specs.Writing as e
 use Rattle.format.specs.Answers as a
+use Rattle.format.specs.Orders as q
 
 -- how a reading ends: the bytes taken, the rows, and what the other loans hold; or a refusal's number, told value and place
 pub data Want : Type 0 where
@@ -168,8 +169,42 @@ unfolding u.partOf u.groups u.moreOf u.u29 w.sizeOf w.shapeOf z.integerOf z.colu
     ieee.odd ieee.ofFields ieee.ofBits ieee.toUnsigned
 proved = refl
 
--- ---- the others: what waits, two deep messages, the array of two "a" written, also where the output is too short, a dynamic object written, a message fed byte by
--- byte that lacks a row, and fewer rows lent than at the beginning
+-- ---- orders, each a table and the bytes that are written of it
+
+pub data Sent : Type 0 where
+  sent : List (List ℕ) → List ℕ → List ℕ → Sent
+
+-- null, the array of two "a", null; the integers 1 and -1; a dynamic object; an array of nothing and one of a null; an int vector of nothing, fixed and not
+abbrev orders : List Sent
+orders =
+    sent (row 2 keyless 0 0 0 0 0 1 ∷ []) [] (0x01 ∷ [])
+    ∷ sent (row 9 keyless 0 0 0 0 2 3 ∷ row 6 keyless 0 1 0 0 0 2 ∷ row 6 keyless 0 1 0 0 0 3 ∷ []) (0x61 ∷ [])
+    (0x09 ∷ 0x05 ∷ 0x01 ∷ 0x06 ∷ 0x03 ∷ 0x61 ∷ 0x06 ∷ 0x03 ∷ 0x61 ∷ [])
+    ∷ sent (row 2 keyless 0 0 0 0 0 1 ∷ []) [] (0x01 ∷ [])
+    ∷ sent (row 4 keyless 0 0 1 0 0 1 ∷ []) [] (0x04 ∷ 0x01 ∷ [])
+    ∷ sent (row 4 keyless 0 0 (2 ^ 64 - 1) 0 0 1 ∷ []) [] (0x04 ∷ 0xFF ∷ 0xFF ∷ 0xFF ∷ 0xFF ∷ [])
+    ∷ sent (row 10 keyless 0 0 0 0 1 2 ∷ row 4 (1 ∷ 0 ∷ 1 ∷ []) 0 0 1 0 0 2 ∷ []) (0x61 ∷ []) (0x0A ∷ 0x0B ∷ 0x01 ∷ 0x03 ∷ 0x61 ∷ 0x04 ∷ 0x01 ∷ 0x01 ∷ [])
+    ∷ sent (row 9 keyless 0 0 0 0 0 1 ∷ []) [] (0x09 ∷ 0x01 ∷ 0x01 ∷ [])
+    ∷ sent (row 9 keyless 0 0 0 0 1 2 ∷ row 2 keyless 0 0 0 0 0 2 ∷ []) [] (0x09 ∷ 0x03 ∷ 0x01 ∷ 0x01 ∷ [])
+    ∷ sent ((13 ∷ keyless ++ 0 ∷ 0 ∷ 0 ∷ 1 ∷ 0 ∷ 0 ∷ 0 ∷ 1 ∷ []) ∷ []) [] (0x0D ∷ 0x01 ∷ 0x01 ∷ [])
+    ∷ sent (row 13 keyless 0 0 0 0 0 1 ∷ []) [] (0x0D ∷ 0x01 ∷ 0x00 ∷ [])
+    ∷ []
+
+abbrev bytesSent : Sent → List ℕ
+bytesSent (sent R B bytes) = bytes
+
+abbrev treeSent : Sent → t.Tree
+treeSent (sent R B bytes) = v.unfolded (joined R) B 0
+
+-- what write makes of each, and what is due
+abbrev writes : Sent → a.Output
+writes (sent R B bytes) = a.writeCall (joined R) B (replicate (length bytes) 7)
+
+abbrev due : Sent → a.Output
+due (sent R B bytes) = a.output (Bytes (length bytes)) bytes
+
+-- ---- the others: what waits, two deep messages, the array of two "a" written, also where the output is too short, a message fed byte by byte that
+-- lacks a row, fewer rows lent than at the beginning, and the orders: each written, all of them read in turn, and fed in turn byte by byte
 
 pub data Waits : Type 0 where
   waiting : Cursor → m.Memory → Waits
@@ -211,10 +246,11 @@ pub others :
     ≡ a.output (Bytes 9) (0x09 ∷ 0x05 ∷ 0x01 ∷ 0x06 ∷ 0x03 ∷ 0x61 ∷ 0x06 ∷ 0x03 ∷ 0x61 ∷ 7 ∷ 7 ∷ 7 ∷ []))
     × (a.writeCall (joined (row 9 keyless 0 0 0 0 2 3 ∷ row 6 keyless 0 1 0 0 0 2 ∷ row 6 keyless 0 1 0 0 0 3 ∷ [])) (0x61 ∷ []) (replicate 8 7)
     ≡ a.output (Unwritten 10 7 8) (replicate 8 7))
-    × (a.writeCall (joined (row 10 keyless 0 0 0 0 1 2 ∷ row 4 (1 ∷ 0 ∷ 1 ∷ []) 0 0 1 0 0 2 ∷ [])) (0x61 ∷ []) (replicate 8 7)
-    ≡ a.output (Bytes 8) (0x0A ∷ 0x0B ∷ 0x01 ∷ 0x03 ∷ 0x61 ∷ 0x04 ∷ 0x01 ∷ 0x01 ∷ []))
     × (dribble (0x09 ∷ 0x0D ∷ 0x01 ∷ replicate 6 0x01) (a.beginCall lent) 0 ≡ dribbled (Refused 10 1 9 0) (loans (refuses 10 1 9)) 9)
     × (relent (a.beginCall lent) (m.memory (replicate 60 0) (replicate 16 0) (replicate 4 0) (replicate 4 0) (replicate 10 0) (replicate 2 0)) (0x01 ∷ []) ≡ Refused 12 0 0 0)
+    × (map writes orders ≡ map due orders)
+    × (q.readInTurn 11 lent (joined (map bytesSent orders)) ≡ q.findings (map bytesSent orders) (map treeSent orders) [])
+    × (q.fedInTurn 60 (a.beginCall lent) (map (λ b. b ∷ []) (joined (map bytesSent orders))) ≡ q.fedFindings (map treeSent orders) (a.beginCall lent) [])
 unfolding u.partOf u.groups u.moreOf u.u29 w.sizeOf w.shapeOf z.integerOf z.columnOf z.ofColumn n.numberOf n.bytesOf n.digitOf y.finite y.refusedDate y.dateOf o.tells o.sayable
     x.stepOf x.foldOf g.follow g.validText m.messageLimit m.openLimit m.loanFault m.zeroed m.putRow m.col d.kindOf d.newRow d.marker d.closed d.numbered
     d.integerEnd d.dateEnd d.bodied d.classed d.objectClass d.vectorClass d.flagged d.counted d.keyEnd d.grown d.oldText d.reserved d.stored d.judged d.textEnd d.entered
@@ -229,5 +265,5 @@ unfolding u.partOf u.groups u.moreOf u.u29 w.sizeOf w.shapeOf z.integerOf z.colu
     v.pairsAt v.entriesAt v.node v.treeAt v.unfolded f.spanFits f.markFits f.columnsFit f.signedFits f.valueFits f.children f.closes f.gives f.parentIn f.numberIn f.given
     f.wellFormed f.numberWritable f.bodyWritable f.keyWritable f.writable f.testFrom f.tested e._then_ e.these e.streamBytes e.isDeep e.emitTrees e.emitPairs
     e.emitValues e.emitDynamic e.emitEntries e.emitIn e.emit e.settle e.writing a.beginCall a.runHeld a.takenBy a.feedCall a.endCall a.readCall a.writeCall
-    ieee.odd ieee.ofFields ieee.ofBits ieee.toUnsigned
-others = (refl, refl, refl, refl, refl, refl, refl, refl)
+    q.readInTurn q.fedInTurn ieee.odd ieee.ofFields ieee.ofBits ieee.toUnsigned
+others = (refl, refl, refl, refl, refl, refl, refl, refl, refl, refl)

@@ -38,7 +38,7 @@ unfolding takenBy runHeld
 taken-append h [] b = sym (zero-add _)
 taken-append h (x ∷ a) b = rw (taken-append (byteStep x h) a b, add-assoc)
 
-cost-most : (s after : State) → costFrom s after ≤ 1
+pub cost-most : (s after : State) → costFrom s after ≤ 1
 cost-most (over e) after = omega arith
 cost-most (none m) after = omega arith
 cost-most (wait x ts c m) (wait y us d n) = omega arith
@@ -47,7 +47,7 @@ cost-most (wait x ts c m) (over (refused number told place n)) =
     on-bool (eqb number refusals.tooLong || eqb number refusals.lost) (λ e. rw e (omega arith)) (λ e. rw e (omega arith))
 cost-most (wait x ts c m) (none n) = omega arith
 
-taken-most : (h : Held) (bs : List ℕ) → takenBy h bs ≤ length bs
+pub taken-most : (h : Held) (bs : List ℕ) → takenBy h bs ≤ length bs
 unfolding takenBy
 taken-most h [] = omega arith
 taken-most h (b ∷ bs) =

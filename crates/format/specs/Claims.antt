@@ -33,7 +33,7 @@ use Rattle.format.specs.Refusals as no
 
 -- ---- pieces and calls
 
--- the pieces of a message, joined
+-- lists of bytes, joined: the pieces of a message
 abbrev pub joined : List (List ℕ) → List ℕ
 joined [] = []
 joined (piece ∷ pieces) = piece ++ joined pieces
@@ -229,6 +229,10 @@ usedRows c m = take (c .rows * rowWidth) (m .rows)
 abbrev pub usedStore : Cursor → Memory → List ℕ
 usedStore c m = take (c .store) (m .store)
 
+-- the tree of the rows that a finished reading used
+abbrev pub treeRead : ℕ → Memory → Tree
+treeRead rows m = unfolded (take (rows * rowWidth) (m .rows)) (m .store) 0
+
 -- not refused for depth
 abbrev pub Shallow : Ended → Type 0
 Shallow e = (told place : ℕ) (m : Memory) → e ≢ refused no.tooDeep told place m
@@ -239,7 +243,7 @@ pub record Returns (e : Ended) (n : ℕ) (t : Tree) : Type 0 where
   pub memory : Memory
   pub finishes : e ≡ finished cursor memory
   pub takes : cursor .at ≡ n
-  pub unfolds : unfolded (usedRows cursor memory) (memory .store) 0 ≡ t
+  pub unfolds : treeRead (cursor .rows) memory ≡ t
 
 -- a reading of a written tree finishes on the tree just where the loans can hold it
 pub data Held-just (m : Memory) (t : Tree) (rest : List ℕ) : Bool → Type 0 where
@@ -261,7 +265,7 @@ pub record Again (m : Memory) (bs : List ℕ) (n : ℕ) (t : Tree) : Type 0 wher
   pub bytes : ℕ
   pub loans : Memory
   pub reads : readCall m bs ≡ read (Finished rows bytes n) loans
-  pub unfolds : unfolded (take (rows * rowWidth) (loans .rows)) (loans .store) 0 ≡ t
+  pub unfolds : treeRead rows loans ≡ t
   pub ends : (parts : List (List ℕ)) → joined parts ≡ bs → endRead (endBy (fedPieces (beginCall m) parts)) ≡ read (Finished rows bytes 0) loans
   pub takes : (parts : List (List ℕ)) → joined parts ≡ bs → tally (beginCall m) parts ≡ n
 

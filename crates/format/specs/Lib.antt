@@ -22,3 +22,4 @@ pub mod Strays
 pub mod Meant
 pub mod Faults
 pub mod Endings
+pub mod Orders
