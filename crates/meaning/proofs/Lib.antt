@@ -49,7 +49,8 @@ pub mod Enough
 pub mod Taken
 pub mod Finishes
 -- What an accepted writing wrote, read again.
-pub mod Again
 pub mod Trip
+-- What accepted writings wrote, one after the other.
+pub mod Orders
 -- Loans that held a tree can hold it.
 pub mod Exactly

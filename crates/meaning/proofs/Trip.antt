@@ -23,7 +23,7 @@ use Rattle.meaning.proofs.Round.{standard-round}
 use Rattle.format.proofs.Unfolded.{unfolded-fits}
 use Rattle.meaning.proofs.Finishes.{Unlimited, reading-unlimited}
 use Rattle.meaning.proofs.Writes.{accepted, reported}
-use Rattle.meaning.proofs.Again.{Wide}
+use Rattle.format.specs.Claims.{Wide}
 use Rattle.format.specs.Refusals as refusals
 pub use Rattle.format.specs.Claims.{Returns}
 

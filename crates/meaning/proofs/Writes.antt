@@ -14,6 +14,8 @@ use Rattle.format.specs.Standard.{Tree, encode}
 use Rattle.format.specs.Unfold.{unfolded}
 use Rattle.format.specs.RowTest.{Tested, fine, faulty, tested}
 use Rattle.format.specs.Writing.{streamBytes, isDeep, emit, Wrote, written, unwritten, settle, afterTest, afterFault, writing}
+use Rattle.format.specs.declared.Written.the-variants.{Bytes as Written}
+use Rattle.format.specs.Answers.{output, writtenOf, writeCall}
 use Rattle.format.proofs.Tests.{clash}
 use Rattle.meaning.proofs.Parts.{depth}
 use Rattle.meaning.proofs.Emit.{begins-prefix, emit-whole, emit-deep, Nested, nested-deep, emit-stop}
@@ -106,6 +108,15 @@ module _ (R B out : List ℕ) where
 -- ---- an accepted writing, and a refused one
 
 module _ (R B out P : List ℕ) where
+  -- what the call accepts, the writing does
+  pub call-wrote : (n : ℕ) → writeCall R B out ≡ output (Written n) P → writing R B out ≡ written n P
+  unfolding writeCall
+  call-wrote n e = of (writing R B out) e
+    where
+      of : (w : Wrote) → writtenOf w ≡ output (Written n) P → w ≡ written n P
+      of (written k Q) e = cc
+      of (unwritten i t p Q) e = clash cc
+
   end-accepted : {w : Wrote} (n : ℕ) → Unrefused R B → Ends (unfolded R B 0) out w → w ≡ written n P → Accepted R B out n P
   end-accepted n p (whole d l) e =
       let m : length (encode (unfolded R B 0)) ≡ n = cc in

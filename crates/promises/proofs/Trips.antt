@@ -21,12 +21,11 @@ use Rattle.format.specs.Standard.{encodeValues, encodeDynamic, encodeEntries}
 use Rattle.format.specs.Unfold.{part, bodyOf, classText, flagSet, home, after, treesAt, pairsAt, entriesAt, node, treeAt, unfolded}
 use Rattle.format.specs.Holds.{canHold}
 use Rattle.format.specs.Reading.{reading}
-use Rattle.format.specs.Writing.{Wrote, written, unwritten, writing}
-use Rattle.format.specs.Answers.{read, readOf, readCall, output, writtenOf, writeCall}
-use Rattle.format.proofs.Tests.{clash}
+use Rattle.format.specs.Writing.{written, writing}
+use Rattle.format.specs.Answers.{read, readOf, readCall, output, writeCall}
 use Rattle.format.proofs.Pieces.{unread, feeding-calls, taken-calls}
-use Rattle.meaning.proofs.Writes.{accepted, reported}
-use Rattle.meaning.proofs.Again.{Wide}
+use Rattle.meaning.proofs.Writes.{call-wrote, accepted, reported}
+use Rattle.format.specs.Claims.{Wide}
 use Rattle.meaning.proofs.Trip.{Returns, round-trip}
 pub use Rattle.format.specs.Claims.{Again}
 
@@ -48,6 +47,9 @@ bytes-of (more h k) (suc i) = bytes-of k i
 append : {a b : List ℕ} → Octets a → Octets b → Octets (a ++ b)
 append empty k = k
 append (more h l) k = more h (append l k)
+
+pub append-bytes : (a b : List ℕ) → Bytes a → Bytes b → Bytes (a ++ b)
+append-bytes a b h k = bytes-of (append (octets-of a h) (octets-of b k))
 
 taking : (n : ℕ) {l : List ℕ} → Octets l → Octets (take n l)
 taking zero h = empty
@@ -226,12 +228,7 @@ again m bs n t o r =
 -- an accepted write of a store of bytes and rows of 64-bit numbers
 module _ (R B out P : List ℕ) (n : ℕ) (wide : Wide R) (store : Bytes B) (accepts : writeCall R B out ≡ output (Written n) P) where
   wrote : writing R B out ≡ written n P
-  unfolding writeCall
-  wrote = of (writing R B out) accepts
-    where
-      of : (w : Wrote) → writtenOf w ≡ output (Written n) P → w ≡ written n P
-      of (written k Q) e = cc
-      of (unwritten i t p Q) e = clash cc
+  wrote = call-wrote R B out P n accepts
 
   -- the bytes that it reports are bytes
   pub written-bytes : Bytes (take n P)
@@ -241,7 +238,7 @@ module _ (R B out P : List ℕ) (n : ℕ) (wide : Wide R) (store : Bytes B) (acc
     -- and are read back, whatever bytes follow them
     pub call-trip : (rest : List ℕ) → Bytes rest → Again m (take n P ++ rest) n (unfolded R B 0)
     call-trip rest h =
-        let o : Bytes (take n P ++ rest) = bytes-of (append (octets-of (take n P) written-bytes) (octets-of rest h)) in
+        let o : Bytes (take n P ++ rest) = append-bytes (take n P) rest written-bytes h in
         again m (take n P ++ rest) n (unfolded R B 0) o (round-trip R B out P n wide wrote m room lent rest o)
 
     pub call-trip-alone : Again m (take n P) n (unfolded R B 0)
