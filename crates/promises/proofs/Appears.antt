@@ -22,7 +22,7 @@ use Rattle.format.specs.Together.{Together}
 use Rattle.format.proofs.Lists.{sets-at}
 use Rattle.meaning.proofs.Ground.{col-lent}
 use Rattle.format.proofs.Tests.{clash}
-use Rattle.promises.proofs.Order.{in-loans}
+use Rattle.promises.proofs.Precedence.{in-loans}
 use Rattle.promises.proofs.Together.{together-sound}
 
 -- ---- what is next

@@ -1,9 +1,9 @@
--- The three demands, sentence by sentence, each with its theorem. The proofs stand in the crates format, beside the definitions, and meaning, and in this one.
+-- The three demands, and request 13, sentence by sentence, each with its theorem. The proofs stand in the crates format, beside the definitions, and meaning, and in this one.
 -- Where a theorem refuses a wrong program that keeps the others, it says so.
 use mathlib.Core.Path.{_≡_}
 use mathlib.Core.Bool.{true}
 use mathlib.Core.Logic.{_≢_}
-use mathlib.Core.List.{List, [], _∷_, _++_}
+use mathlib.Core.List.{List, [], _∷_, _++_, map}
 use Prim.Native.Nat.{ℕ, suc, _+_, _/_, _^_, _≤_, _<_}
 use lib.Dec.{T}
 use lib.ListN.{length, take, drop, replicate}
@@ -27,21 +27,22 @@ use Rattle.format.specs.Step.{Mode, atMarker, atWord, atText, Word, Text, table
 use Rattle.format.specs.Numbers.{Numbers, stateOf, lentOf, framesSize}
 use Rattle.format.specs.Answers.{Fed, fed, answerOf, beginCall, feedCall, endCall, read, readCall, output, writeCall, textCall}
 use Rattle.format.specs.Standard.{Tables, Tree, noTables, value, standard, encode}
-use Rattle.format.specs.Unfold.{home, part, unfolded}
+use Rattle.format.specs.Unfold.{home, part, node, unfolded}
 use Rattle.format.specs.Holds.{canHold}
-use Rattle.format.specs.RowTest.{tested}
+use Rattle.format.specs.RowTest.{fine, tested}
 use Rattle.format.specs.Writing.{written, unwritten, writing}
 use Rattle.wire.specs.Octets.{Bytes}
 use Rattle.format.specs.Claims.{joined, answerIn, takenIn, untaken, fedBy, fedPieces, tally, untook, endBy, endRead, unread, firstNumbers, refusedNumbers}
 use Rattle.format.specs.Claims.{lostNumbers, placeIn, lastByte, Named, BeginSays, FeedSays, EndSays, ReadSays, WriteRefuses, WriteSays, readAnswer, writeAnswer}
 use Rattle.format.specs.Claims.{Going, FeedLeaves, EndLeaves, Feeds, usedRows, Shallow, Returns, Held-just, Passes, Wide, Again, NoShorter, Roomy, widened, beyond}
-use Rattle.format.specs.Claims.{extra, used, RefusedWith, RowNew, TextKind}
+use Rattle.format.specs.Claims.{extra, used, treeRead, RefusedWith, RowNew, TextKind}
 use Rattle.format.specs.Byte.{Decided-by}
 use Rattle.format.specs.Limits.{Accord, Kept-to, ReadingEnds, asked, Enters}
 use Rattle.format.specs.Meant.{StateMeant}
 use Rattle.format.specs.Together.{Together, HoldsTogether}
 use Rattle.format.specs.Strays.{Strays}
 use Rattle.format.specs.Endings.{TestSays, Outcome, Accepted, depth}
+use Rattle.format.specs.Orders.{Order, orderBytes, orderTree, backToBack, HoldsEach, findings, readInTurn, fedFindings, foundBefore, fedInTurn}
 use Rattle.format.proofs.Feeding as feeding
 use Rattle.format.proofs.Cuts as cuts
 use Rattle.format.proofs.Pieces as pieces
@@ -49,6 +50,7 @@ use Rattle.format.proofs.Unique as unique
 use Rattle.format.proofs.Meant as meant
 use Rattle.format.proofs.Least as least
 use Rattle.format.proofs.Wiped as wiped
+use Rattle.format.proofs.Levels as levels
 use Rattle.meaning.proofs.Meaning as meaning
 use Rattle.meaning.proofs.Finished as tables
 use Rattle.meaning.proofs.Depth as deeper
@@ -59,18 +61,22 @@ use Rattle.meaning.proofs.Round as round
 use Rattle.meaning.proofs.Size as size
 use Rattle.meaning.proofs.Exactly as exactly
 use Rattle.meaning.proofs.Trip as trip
+use Rattle.meaning.proofs.Orders as orders
 use Rattle.promises.proofs.Decides as decides
 use Rattle.promises.proofs.Answered as answered
 use Rattle.promises.proofs.Together as together
 use Rattle.promises.proofs.Strays as strays
 use Rattle.promises.proofs.Holding as holding
-use Rattle.promises.proofs.Order as order
+use Rattle.promises.proofs.Precedence as precedence
 use Rattle.promises.proofs.Appears as appears
 use Rattle.promises.proofs.Ranges as ranges
 use Rattle.promises.proofs.Ample as ample
 use Rattle.promises.proofs.Ties as ties
 use Rattle.promises.proofs.Roomy as roomy
 use Rattle.promises.proofs.Trips as trips
+use Rattle.promises.proofs.Behind as behind
+use Rattle.promises.proofs.Turns as turns
+use Rattle.promises.proofs.FedTurns as fed-turns
 
 -- ======== 1. Total
 
@@ -156,49 +162,49 @@ feed-places = answered.feed-going
 -- of two refusals that are due at one byte, on any state whose head holds together: 11 comes before the byte is looked at
 pub limit-first : (state : Numbers) (m : Memory) (b : ℕ) (bs : List ℕ) (x : Mode) (ts : List Frame) (c : Cursor) → stateOf state m ≡ wait x ts c m
     → Together (state .head .lent) x ts c m → c .at ≡ messageLimit → RefusedWith state m (b ∷ bs) no.tooLong 0 messageLimit 0
-limit-first = order.limit-first
+limit-first = precedence.limit-first
 
 -- at a marker 3, however deep it is and however full the rows are
 pub marker-unknown : (state : Numbers) (m : Memory) (b : ℕ) (bs : List ℕ) (k : Key) (ts : List Frame) (c : Cursor) → stateOf state m ≡ wait (atMarker k) ts c m
     → Together (state .head .lent) (atMarker k) ts c m → b < 2 ^ 8 → c .at < messageLimit → 0x11 < b → RefusedWith state m (b ∷ bs) no.badMarker b (suc (c .at)) 1
-marker-unknown = order.marker-unknown
+marker-unknown = precedence.marker-unknown
 
 -- then 9 wherever 64 are open, however full the rows are
 pub marker-deep : (state : Numbers) (m : Memory) (b : ℕ) (bs : List ℕ) (k : Key) (ts : List Frame) (c : Cursor) → stateOf state m ≡ wait (atMarker k) ts c m
     → Together (state .head .lent) (atMarker k) ts c m → b < 2 ^ 8 → c .at < messageLimit → b ≤ 0x11 → length ts ≡ openLimit
     → RefusedWith state m (b ∷ bs) no.tooDeep 0 (suc (c .at)) 1
-marker-deep = order.marker-deep
+marker-deep = precedence.marker-deep
 
 -- then 10 for rows
 pub marker-full : (state : Numbers) (m : Memory) (b : ℕ) (bs : List ℕ) (k : Key) (ts : List Frame) (c : Cursor) → stateOf state m ≡ wait (atMarker k) ts c m
     → Together (state .head .lent) (atMarker k) ts c m → b < 2 ^ 8 → c .at < messageLimit → b ≤ 0x11 → length ts < openLimit
     → rowsIn (m .rows) ≤ c .rows → RefusedWith state m (b ∷ bs) no.noRoom loanRows (suc (c .at)) 1
-marker-full = order.marker-full
+marker-full = precedence.marker-full
 
 -- at the last byte of a literal object's word the objects' room, before all that follows
 pub objects-first : (state : Numbers) (m : Memory) (b : ℕ) (bs : List ℕ) (x : Word) (left part v : ℕ) (ts : List Frame) (c : Cursor)
     → stateOf state m ≡ wait (atWord x left part) ts c m → Together (state .head .lent) (atWord x left part) ts c m → b < 2 ^ 8 → c .at < messageLimit
     → partOf left part b ≡ Whole v → Enters x v → length (m .objects) ≤ c .objects → RefusedWith state m (b ∷ bs) no.noRoom loanObjects (suc (c .at)) 1
-objects-first = order.objects-first
+objects-first = precedence.objects-first
 
 -- then room in the store, as soon as the length is known
 pub store-next : (state : Numbers) (m : Memory) (b : ℕ) (bs : List ℕ) (x : Word) (left part v : ℕ) (ts : List Frame) (c : Cursor)
     → stateOf state m ≡ wait (atWord x left part) ts c m → Together (state .head .lent) (atWord x left part) ts c m → b < 2 ^ 8 → c .at < messageLimit
     → partOf left part b ≡ Whole v → (Enters x v → c .objects < length (m .objects)) → length (m .store) < c .store + asked x (sizeOf v)
     → RefusedWith state m (b ∷ bs) no.noRoom loanStore (suc (c .at)) 1
-store-next = order.store-next
+store-next = precedence.store-next
 
 -- at a text's last byte 8, however full the strings are
 pub text-first : (state : Numbers) (m : Memory) (b : ℕ) (bs : List ℕ) (x : Text) (s : Span) (test : ℕ) (ts : List Frame) (c : Cursor)
     → stateOf state m ≡ wait (atText x s 0 test) ts c m → Together (state .head .lent) (atText x s 0 test) ts c m → b < 2 ^ 8 → c .at < messageLimit
     → stepOf test b ≢ 0 → RefusedWith state m (b ∷ bs) no.badText 0 (suc (c .at)) 1
-text-first = order.text-first
+text-first = precedence.text-first
 
 -- then room for the string's entry
 pub strings-next : (state : Numbers) (m : Memory) (b : ℕ) (bs : List ℕ) (u : Use) (s : Span) (test : ℕ) (ts : List Frame) (c : Cursor)
     → stateOf state m ≡ wait (atText (tableText u) s 0 test) ts c m → Together (state .head .lent) (atText (tableText u) s 0 test) ts c m → b < 2 ^ 8
     → c .at < messageLimit → stepOf test b ≡ 0 → length (m .strings) / spanWidth ≤ c .strings → RefusedWith state m (b ∷ bs) no.noRoom loanStrings (suc (c .at)) 1
-strings-next = order.strings-next
+strings-next = precedence.strings-next
 
 -- "A refused reading leaves the loans as document 01 says": after 1 as found, after any other refusal all of them zero
 pub refused-by-1 : (m : Memory) (bytes : List ℕ) (loan : ℕ) → faultOf m ≡ suc loan → reading m bytes ≡ refused no.badLoan (suc loan) 0 m
@@ -249,6 +255,10 @@ write-accepted = ties.write-accepted
 
 pub write-refused : (R B out P : List ℕ) (n told place : ℕ) → writing R B out ≡ unwritten n told place P → writeCall R B out ≡ output (Unwritten n told place) P
 write-refused = ties.write-refused
+
+-- what a write accepts is an accepted writing
+pub write-accepts : (R B out P : List ℕ) (n : ℕ) → writeCall R B out ≡ output (Written n) P → writing R B out ≡ written n P
+write-accepts = writes.call-wrote
 
 -- text gives the part of the store that a row, or the target of a reference, says. Refuses: a text that always gives the default
 pub text-there : (R B : List ℕ) (i : ℕ) (default : List ℕ) → rowsFault R B ≡ 0 → TextKind (col R (home R i) colKind)
@@ -322,6 +332,11 @@ fuel-is-enough = fuel.standard-fuel
 pub depth-is-enough : (left : ℕ) → openLimit ≤ left → (m : Memory) (bytes : List ℕ) → Shallow (reading m bytes)
     → unlessFault (faultOf m) m (ended (reader.value left noKey (zeroed m) fresh bytes)) ≡ reading m bytes
 depth-is-enough = deeper.deeper-reading
+
+-- the unfolded tree of rows that pass is at each row what its kind says of its children's trees, and a reference's is its target's.
+-- Refuses: an unfolding that takes the text of row 0 for null where it doesn't begin the store
+pub unfolded-by-rows : (R B : List ℕ) → tested R B ≡ fine → (i : ℕ) → i < rowsIn R → unfolded R B i ≡ node (unfolded R B) R B (home R i)
+unfolded-by-rows = levels.unfolded-node
 
 -- "Writing means what the specification says": accepted exactly where document 01 says, as `encode` of the unfolded tree, and only the bytes reported change
 pub accepted-writing : (R B out P : List ℕ) (n : ℕ) → writing R B out ≡ written n P → Accepted R B out n P
@@ -516,6 +531,143 @@ ended-repeats = pieces.feed-ended
 -- and to the end
 pub ended-repeats-to-end : (n : Numbers) (m k : Memory) (e : Ended) → stateOf n m ≡ over e → endCall n k ≡ fed (answerOf (over e) 0) n k
 ended-repeats-to-end = pieces.end-ended
+
+-- ======== Request 13: no order hides in another
+
+-- Here "Refuses:" names a wrong program that the theorem rules out; a theorem above may rule it out too.
+
+-- "Take two tables of one tree each that it accepts" (`Order`). "Their bytes are equal exactly if their unfolded trees are equal, place column aside": equal trees
+-- give equal bytes. Refuses: a writer that writes a row of kind reference as a reference
+pub same-bytes : (o p : Order) → orderTree o ≡ orderTree p → orderBytes o ≡ orderBytes p
+same-bytes = orders.same-bytes
+
+-- and equal bytes are of equal trees. Refuses: a writer that writes 0 for the flag of every vector
+pub same-tree : (o p : Order) → orderBytes o ≡ orderBytes p → orderTree o ≡ orderTree p
+same-tree = orders.same-tree
+
+-- they are the standard's, without a length before them. Refuses: a writer that puts one there
+pub order-bytes : (o : Order) → orderBytes o ≡ encode (orderTree o)
+order-bytes = orders.order-bytes
+
+-- and as many as are reported
+pub order-size : (o : Order) → o .size ≡ length (orderBytes o)
+order-size = turns.order-size
+
+-- "and one's bytes are never a proper beginning of the other's". Refuses: a writer that leaves out the empty key behind dynamic members
+pub no-beginning : (o p : Order) (x : List ℕ) → orderBytes o ++ x ≡ orderBytes p → x ≡ []
+no-beginning = orders.no-beginning
+
+-- where two orders begin the same bytes they have the same tree and the same bytes, and the same is behind them
+pub same-order : (o p : Order) (x y : List ℕ) → orderBytes o ++ x ≡ orderBytes p ++ y → (orderTree o ≡ orderTree p) × (orderBytes o ≡ orderBytes p) × (x ≡ y)
+same-order = orders.same-order
+
+-- "Hence a list of written orders joined together has one reading as such a list"
+pub one-list : (os ps : List Order) → backToBack os ≡ backToBack ps → (map orderBytes os ≡ map orderBytes ps) × (map orderTree os ≡ map orderTree ps)
+one-list = orders.one-list
+
+-- the reader finds the first order, with loans that can hold it, whatever numbers are behind it. Refuses: a reader that takes a byte more
+pub first-order : (o : Order) (m : Memory) → canHold m (orderTree o) ≡ true → faultOf m ≡ 0 → (rest : List ℕ)
+    → Returns (reading m (orderBytes o ++ rest)) (o .size) (orderTree o)
+first-order = turns.first-order
+
+-- through the calls, whole and however the bytes are cut
+pub first-order-calls : (o : Order) (m : Memory) → canHold m (orderTree o) ≡ true → faultOf m ≡ 0 → (rest : List ℕ) → Bytes rest
+    → Again m (orderBytes o ++ rest) (o .size) (orderTree o)
+first-order-calls = turns.first-order-calls
+
+-- and with any loans nothing else. Refuses: a reader that cuts a text to the room that is left, and then finds orders in the rest of it
+pub finished-order : (o : Order) (m : Memory) (rest : List ℕ) (c : Cursor) (k : Memory) → reading m (orderBytes o ++ rest) ≡ finished c k
+    → Returns (reading m (orderBytes o ++ rest)) (o .size) (orderTree o)
+finished-order = turns.finished-order
+
+-- however its bytes are cut
+pub finished-order-feed : (o : Order) (m : Memory) (parts : List (List ℕ)) (rest : List ℕ) → Bytes rest → joined parts ≡ orderBytes o ++ rest
+    → (rows stored taken : ℕ) (state : Numbers) (l : Memory) → fedPieces (beginCall m) parts ≡ fed (Finished rows stored taken) state l
+    → (tally (beginCall m) parts ≡ o .size) × (treeRead rows l ≡ orderTree o)
+finished-order-feed = fed-turns.finished-order-feed
+
+-- and on a part of it that lacks a byte it doesn't finish. Refuses: a reader that finishes where the last byte of a date is missing
+pub no-part : (o : Order) (x y : List ℕ) → x ++ y ≡ orderBytes o → (m : Memory) (c : Cursor) (k : Memory) → reading m x ≡ finished c k → y ≡ []
+no-part = turns.no-part
+
+-- order by order it finds all of them, each reading in the loans as the one before left them, where these can hold each
+pub order-by-order : (os : List Order) (m : Memory) → faultOf m ≡ 0 → HoldsEach m os → (rest : List ℕ)
+    → readInTurn (length os) m (backToBack os ++ rest) ≡ findings (map orderBytes os) (map orderTree os) rest
+order-by-order = turns.order-by-order
+
+-- with nothing behind them no more, however often it reads. Refuses: a reader that finishes on no bytes
+pub whole-list : (os : List Order) (m : Memory) → faultOf m ≡ 0 → HoldsEach m os → (n : ℕ) → length os ≤ n
+    → readInTurn n m (backToBack os) ≡ findings (map orderBytes os) (map orderTree os) []
+whole-list = turns.whole-list
+
+-- and with any loans orders from the first one on, and nothing else; also where more readings are made than there are orders, if nothing is behind them
+pub only-orders : (n : ℕ) (os : List Order) (m : Memory) (rest : List ℕ) → n ≤ length os
+    → (k : ℕ) × (readInTurn n m (backToBack os ++ rest) ≡ findings (map orderBytes (take k os)) (map orderTree (take k os)) (backToBack (drop k os) ++ rest))
+only-orders = turns.only-orders
+
+pub no-others : (n : ℕ) (os : List Order) (m : Memory)
+    → (k : ℕ) × (readInTurn n m (backToBack os) ≡ findings (map orderBytes (take k os)) (map orderTree (take k os)) (backToBack (drop k os)))
+no-others = turns.no-others
+
+-- fed in pieces that don't heed where an order ends, each reading begun in the loans as the one before left them, it finds the same trees, and is in the end as at the beginning.
+-- Refuses: a feed that swallows the rest of a piece
+pub piece-by-piece : (os : List Order) (m : Memory) → faultOf m ≡ 0 → HoldsEach m os → (parts : List (List ℕ)) → joined parts ≡ backToBack os
+    → (n : ℕ) → length os + length parts ≤ n → fedInTurn n (beginCall m) parts ≡ fedFindings (map orderTree os) (beginCall m) []
+piece-by-piece = fed-turns.piece-by-piece
+
+-- bytes behind the orders go to a reading that is begun in loans of the same lengths; each feed before it took a piece or finished an order
+pub pieces-in-turn : (os : List Order) (m : Memory) → faultOf m ≡ 0 → HoldsEach m os → (parts : List (List ℕ)) (rest : List ℕ) → Bytes rest
+    → joined parts ≡ backToBack os ++ rest → (n : ℕ) → length os + length parts ≤ n
+    → (k : Memory) × (pieces : List (List ℕ)) × (j : ℕ) × (lentOf k ≡ lentOf m) × (joined pieces ≡ rest)
+    × (n + length pieces ≡ j + (length os + length parts)) × (fedInTurn n (beginCall m) parts ≡ foundBefore (map orderTree os) (fedInTurn j (beginCall k) pieces))
+pieces-in-turn = fed-turns.pieces-in-turn
+
+-- and with any loans trees of orders from the first one on, and no others
+pub only-pieces : (n : ℕ) (os : List Order) (m : Memory) (parts : List (List ℕ)) → joined parts ≡ backToBack os
+    → (k : ℕ) × (f : Fed) × (left : List (List ℕ)) × (fedInTurn n (beginCall m) parts ≡ fedFindings (map orderTree (take k os)) f left)
+only-pieces = fed-turns.only-pieces
+
+-- "if it finishes on some bytes with certain loans, it finishes with the same answer and the same memory on those bytes with anything after them".
+-- Refuses: a reader that wants the end behind its value
+pub more-behind : (m : Memory) (bytes : List ℕ) (c : Cursor) (m′ : Memory) → reading m bytes ≡ finished c m′ → (rest : List ℕ)
+    → reading m (bytes ++ rest) ≡ finished c m′
+more-behind = behind.more-behind
+
+-- and so it does with anything else, or nothing, behind the bytes that it took. Refuses: a reader that wants a byte behind its value
+pub else-behind : (m : Memory) (bytes : List ℕ) (c : Cursor) (m′ : Memory) → reading m bytes ≡ finished c m′ → (other : List ℕ)
+    → reading m (take (c .at) bytes ++ other) ≡ finished c m′
+else-behind = behind.else-behind
+
+-- both through the call
+pub more-behind-read : (m : Memory) (bytes : List ℕ) (rows stored taken : ℕ) (m′ : Memory) → readCall m bytes ≡ read (Finished rows stored taken) m′ → (rest : List ℕ)
+    → readCall m (bytes ++ rest) ≡ read (Finished rows stored taken) m′
+more-behind-read = behind.more-behind-read
+
+pub else-behind-read : (m : Memory) (bytes : List ℕ) (rows stored taken : ℕ) (m′ : Memory) → readCall m bytes ≡ read (Finished rows stored taken) m′ → (other : List ℕ)
+    → readCall m (take taken bytes ++ other) ≡ read (Finished rows stored taken) m′
+else-behind-read = behind.else-behind-read
+
+-- and through a feed, on any state: its answer, the state and the loans
+pub more-behind-feed : (state : Numbers) (m : Memory) (piece : List ℕ) (rows stored taken : ℕ) (state′ : Numbers) (m′ : Memory)
+    → feedCall state m piece ≡ fed (Finished rows stored taken) state′ m′ → (rest : List ℕ) → feedCall state m (piece ++ rest) ≡ fed (Finished rows stored taken) state′ m′
+more-behind-feed = behind.more-behind-feed
+
+pub else-behind-feed : (state : Numbers) (m : Memory) (piece : List ℕ) (rows stored taken : ℕ) (state′ : Numbers) (m′ : Memory)
+    → feedCall state m piece ≡ fed (Finished rows stored taken) state′ m′ → (other : List ℕ)
+    → feedCall state m (take taken piece ++ other) ≡ fed (Finished rows stored taken) state′ m′
+else-behind-feed = behind.else-behind-feed
+
+-- and however both are cut; the last answer's own count is 0 where its piece came behind the value. Refuses: a feed that forgets that it finished
+pub more-behind-pieces : (m : Memory) (parts : List (List ℕ)) (rows stored taken : ℕ) (state : Numbers) (l : Memory)
+    → fedPieces (beginCall m) parts ≡ fed (Finished rows stored taken) state l → (more : List (List ℕ)) (rest : List ℕ) → joined more ≡ joined parts ++ rest
+    → (untook (fedPieces (beginCall m) more) ≡ fed (Finished rows stored 0) state l) × (tally (beginCall m) more ≡ tally (beginCall m) parts)
+more-behind-pieces = behind.more-behind-pieces
+
+-- and at the end. Refuses: an end that finishes what still waits
+pub more-behind-end : (m : Memory) (parts : List (List ℕ)) (rows stored : ℕ) (state : Numbers) (l : Memory)
+    → endBy (fedPieces (beginCall m) parts) ≡ fed (Finished rows stored 0) state l → (more : List (List ℕ)) (rest : List ℕ) → joined more ≡ joined parts ++ rest
+    → endBy (fedPieces (beginCall m) more) ≡ fed (Finished rows stored 0) state l
+more-behind-end = behind.more-behind-end
 
 -- ======== and besides
 

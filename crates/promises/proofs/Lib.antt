@@ -19,10 +19,15 @@ pub mod Twins
 pub mod Strays
 pub mod Holding
 -- Which refusal comes first.
-pub mod Order
+pub mod Precedence
 pub mod Appears
 -- The round trip through the calls.
 pub mod Trips
+-- What stands behind a finished reading's bytes, and orders one after the other.
+pub mod Behind
+pub mod Turns
+pub mod OnePiece
+pub mod FedTurns
 -- What each call is of.
 pub mod Ties
 -- The demands, and wrong programs that each breaks.

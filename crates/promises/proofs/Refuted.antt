@@ -3,16 +3,17 @@
 use mathlib.Core.Path.{_≡_, refl, sym, ap, _∙_}
 use mathlib.Core.Bool.{Bool, true, _&&_}
 use mathlib.Core.Logic.{_≢_}
-use mathlib.Core.List.{List, [], _∷_}
+use mathlib.Core.List.{List, [], _∷_, _++_}
 use Prim.Native.Nat.{ℕ, zero, suc, _+_, _*_, _^_, _≤_, _<_}
 use native.Mathlib.Omega.{arith}
 use native.Mathlib.Nat.{le-refl}
 use lib.Dec.{lit≤, ltb}
 use borrow.Author.Tests.{ltb-true}
-use lib.ListN.{length, replicate}
+use lib.ListN.{length, replicate, take, getD}
 use Rattle.rows.specs.declared.Cursor.{Cursor}
 use Rattle.rows.specs.Memory as r
 use Rattle.rows.specs.Memory.{Memory, memory, zeroed, faultOf, messageLimit, openLimit, rowWidth, traitWidth, spanWidth, loanTraits}
+use Rattle.rows.specs.Kinds.{kindIntVector}
 use Rattle.wire.specs.U29 as u
 use Rattle.wire.specs.Octets.{Bytes}
 use Rattle.utf8.specs.States as x
@@ -24,7 +25,7 @@ use Rattle.format.specs.declared.Frame.{Frame}
 use Rattle.format.specs.Reading.{Ended, ResultOf, finished, refused, ok, reading}
 use Rattle.format.specs.Step.{Mode, wait, none}
 use Rattle.format.specs.Numbers.{Numbers, stateOf}
-use Rattle.format.specs.Answers.{Fed, fed, feedCall, Read, readCall}
+use Rattle.format.specs.Answers.{Fed, fed, feedCall, Read, readCall, Output, output, writeCall}
 use Rattle.format.specs.Standard as t
 use Rattle.format.specs.Standard.{Tables, Tree, standard}
 use Rattle.format.specs.Holds as h
@@ -37,6 +38,14 @@ use Rattle.format.specs.Byte.{RefusedBy}
 use Rattle.format.specs.Byte as byte
 use Rattle.format.specs.Claims.{answerIn, readAnswer, placeIn, lostNumbers, Going, FeedSays, ReadSays, Refuses, Feeds, Returns, NoShorter, widened, beyond, extra}
 use Rattle.format.specs.Claims as claims
+use Rattle.format.specs.Claims.{Wide}
+use Rattle.format.specs.Unfold as v
+use Rattle.format.specs.RowTest as f
+use Rattle.format.specs.Writing as w
+use Rattle.format.specs.Answers as a
+use Rattle.format.specs.Unfold.{unfolded}
+use Rattle.format.specs.declared.Written.the-variants.{Bytes as Written}
+use Rattle.format.specs.Orders.{Order}
 use Rattle.format.specs.Limits.{Accord}
 use Rattle.format.specs.Limits as limits
 use Rattle.format.proofs.Tests.{both, clash}
@@ -58,15 +67,15 @@ second = 0x09 ∷ 0x07 ∷ 0x01 ∷ 0x0A ∷ 0x03 ∷ 0x01 ∷ 0x0A ∷ 0x13 ∷
 abbrev letter : List ℕ
 letter = 0x06 ∷ 0x03 ∷ 0x61 ∷ []
 
--- a list of bytes, by a test
-abbrev areBytes : List ℕ → Bool
-areBytes [] = true
-areBytes (b ∷ s) = ltb b (2 ^ 8) && areBytes s
+-- numbers that are below a bound, by a test
+abbrev areBelow : ℕ → List ℕ → Bool
+areBelow k [] = ltb 0 k
+areBelow k (b ∷ s) = ltb b k && areBelow k s
 
-octets : (s : List ℕ) → areBytes s ≡ true → Bytes s
-octets [] e i = lit≤ tt
-octets (b ∷ s) e zero = ltb-true b (2 ^ 8) (both (ltb b (2 ^ 8)) (areBytes s) e .0)
-octets (b ∷ s) e (suc i) = octets s (both (ltb b (2 ^ 8)) (areBytes s) e .1) i
+below : (k : ℕ) (s : List ℕ) → areBelow k s ≡ true → (i : ℕ) → getD s i 0 < k
+below k [] e i = ltb-true 0 k e
+below k (b ∷ s) e zero = ltb-true b k (both (ltb b k) (areBelow k s) e .0)
+below k (b ∷ s) e (suc i) = below k s (both (ltb b k) (areBelow k s) e .1) i
 
 -- what the standard says of bytes that loans can hold
 record Held (m : Memory) (bytes : List ℕ) (taken : ℕ) : Type 0 where
@@ -86,9 +95,9 @@ unfolding u.u29 r.loanFault r.messageLimit r.openLimit t.byte t.bytes t.word t.c
     t.finishedObject t.objectAt t.names t.newTraits t.classGiven t.trees t.sealed t.pairsFrom t.pairs t.dynamics t.members t.objectOf t.newOf t.sizedOf t.marked t.value
     t.standard g.validText g.follow h.canHold h.ofTree h.ofTrees h.ofPairs h.ofSealed h.ofPlain h.ofClass h.ofText e.depth e.depthTrees e.depthPairs
 held = (
-  record { tree = _; tables = _; rest = _; bits = octets twins refl; clean = refl; reads = refl; holds = refl; shallow = lit≤ tt; short = lit≤ tt },
-  record { tree = _; tables = _; rest = _; bits = octets second refl; clean = refl; reads = refl; holds = refl; shallow = lit≤ tt; short = lit≤ tt },
-  record { tree = _; tables = _; rest = _; bits = octets letter refl; clean = refl; reads = refl; holds = refl; shallow = lit≤ tt; short = lit≤ tt },
+  record { tree = _; tables = _; rest = _; bits = below (2 ^ 8) twins refl; clean = refl; reads = refl; holds = refl; shallow = lit≤ tt; short = lit≤ tt },
+  record { tree = _; tables = _; rest = _; bits = below (2 ^ 8) second refl; clean = refl; reads = refl; holds = refl; shallow = lit≤ tt; short = lit≤ tt },
+  record { tree = _; tables = _; rest = _; bits = below (2 ^ 8) letter refl; clean = refl; reads = refl; holds = refl; shallow = lit≤ tt; short = lit≤ tt },
 )
 
 -- every trait reference refused with 10, loan 5: what the loans can hold is read
@@ -199,7 +208,58 @@ module _ (feeds : Numbers → Memory → List ℕ → Fed)
           let v : i ≡ n = cc in
           absurd (omega (arith, refused-at (b ∷ bs) (p + k) i j place x (λ o. l (sym v ∙ o)) (λ o. f (sym v ∙ o))))
 
+-- ---- orders: what Demands says of `Order` is said here of `Sends`, of any writer
+
+-- a table that a writer accepts, and the bytes that it reports
+pub record Sends (writes : List ℕ → List ℕ → List ℕ → Output) (R B bytes : List ℕ) : Type 0 where
+  out : List ℕ
+  outAfter : List ℕ
+  size : ℕ
+  wide : Wide R
+  octets : Bytes B
+  accepted : writes R B out ≡ output (Written size) outAfter
+  reports : take size outAfter ≡ bytes
+
+-- an int vector of nothing, fixed or not
+abbrev vector : ℕ → List ℕ
+vector flag = kindIntVector ∷ 0 ∷ 0 ∷ 0 ∷ 0 ∷ 0 ∷ 0 ∷ flag ∷ 0 ∷ 0 ∷ 0 ∷ 1 ∷ []
+
+-- ours writes both
+sent : Sends writeCall (vector 1) [] (0x0D ∷ 0x01 ∷ 0x01 ∷ []) × Sends writeCall (vector 0) [] (0x0D ∷ 0x01 ∷ 0x00 ∷ [])
+unfolding u.u29 u.moreOf u.groups g.validText g.follow r.loanFault r.openLimit r.col t.encodePlain v.home v.part v.node v.treeAt v.unfolded f.spanFits f.markFits f.columnsFit f.valueFits f.children f.closes
+    f.gives f.parentIn f.numberIn f.given f.wellFormed f.numberWritable f.bodyWritable f.keyWritable f.writable f.testFrom f.tested w._then_ w.these w.streamBytes w.isDeep
+    w.emitIn w.emit w.settle w.writing a.writeCall
+sent = (
+  record { out = replicate 3 7; outAfter = 0x0D ∷ 0x01 ∷ 0x01 ∷ []; size = 3; wide = below (2 ^ 64) (vector 1) refl; octets = below (2 ^ 8) [] refl; accepted = refl; reports = refl },
+  record { out = replicate 3 7; outAfter = 0x0D ∷ 0x01 ∷ 0x00 ∷ []; size = 3; wide = below (2 ^ 64) (vector 0) refl; octets = below (2 ^ 8) [] refl; accepted = refl; reports = refl },
+)
+
+-- the flag of a vector that isn't written: two trees, one list of bytes
+module _ (writes : List ℕ → List ℕ → List ℕ → Output)
+    (same-tree : (R B R′ B′ bytes : List ℕ) → Sends writes R B bytes → Sends writes R′ B′ bytes → unfolded R B 0 ≡ unfolded R′ B′ 0) where
+  pub fixed-flag-not-written : (bytes : List ℕ) → Sends writes (vector 1) [] bytes → Sends writes (vector 0) [] bytes → ⊥
+  unfolding v.unfolded v.treeAt v.node v.home v.part r.col
+  fixed-flag-not-written bytes o p = let q = same-tree (vector 1) [] (vector 0) [] bytes o p in clash cc
+
+-- an order that begins another: an object without the empty key behind its dynamic members, or null written as nothing
+module _ (writes : List ℕ → List ℕ → List ℕ → Output)
+    (no-beginning : (R B R′ B′ bytes x : List ℕ) → Sends writes R B bytes → Sends writes R′ B′ (bytes ++ x) → x ≡ []) where
+  pub order-ends-early : (R B R′ B′ bytes : List ℕ) (b : ℕ) (more : List ℕ) → Sends writes R B bytes → Sends writes R′ B′ (bytes ++ (b ∷ more)) → ⊥
+  order-ends-early R B R′ B′ bytes b more o p = let q = no-beginning R B R′ B′ bytes (b ∷ more) o p in clash cc
+
+-- a reader that wants the end behind its value
+module _ (reads : Memory → List ℕ → Ended)
+    (more-behind : (m : Memory) (bytes : List ℕ) (c : Cursor) (m′ : Memory) → reads m bytes ≡ finished c m′ → (rest : List ℕ) → reads m (bytes ++ rest) ≡ finished c m′) where
+  pub reader-wants-the-end : (m : Memory) (bytes : List ℕ) (c : Cursor) (m′ : Memory) → reads m bytes ≡ finished c m′ → (b : ℕ) (more : List ℕ) (n told place : ℕ) (k : Memory)
+      → reads m (bytes ++ (b ∷ more)) ≢ refused n told place k
+  reader-wants-the-end m bytes c m′ e b more n told place k q = let h = more-behind m bytes c m′ e (b ∷ more) in clash cc
+
 -- ---- ours: what is asked above of a program is what Demands says of it
+
+abbrev order : (R B bytes : List ℕ) → Sends writeCall R B bytes → Order
+order R B bytes w =
+    record { rows = R; store = B; out = w .out; outAfter = w .outAfter; size = w .size; wide = w .wide; octets = w .octets; accepted = w .accepted }
+
 ours : Unit {0}
 ours =
     let a = trait-reference-refused reading demands.enough in
@@ -211,4 +271,8 @@ ours =
     let g = unsound-state-waits-on feedCall demands.apart-lost in
     let h = stray-waits-on feedCall demands.strays-lost in
     let i = limit-takes-no-byte feedCall demands.feed-places in
+    let j = fixed-flag-not-written writeCall (λ R B R′ B′ bytes o p. demands.same-tree (order R B bytes o) (order R′ B′ bytes p) (o .reports ∙ sym (p .reports))) in
+    let k = order-ends-early writeCall
+    (λ R B R′ B′ bytes x o p. demands.no-beginning (order R B bytes o) (order R′ B′ (bytes ++ x) p) x (ap (λ (l : List ℕ). l ++ x) (o .reports) ∙ sym (p .reports))) in
+    let l = reader-wants-the-end reading demands.more-behind in
     tt
