@@ -7,9 +7,10 @@
  * written from three tables: as it was made, as its plain message reads, and as a message reads that has all references there can be and all words in four
  * bytes. Any two orders are equal exactly if their trees are, and none begins another. No beginning of an order is read, and none is read in loans that lack a
  * row or a byte. What stands behind an order changes nothing. Lists that are read, or fed in pieces that don't heed the orders' ends, give each order as it is
- * read alone. Compared are every field of an answer, every byte written, the state and the loans after a begin and an end, and the loans after a reading of an
- * order, with their guards. Prints what differs, and last 'N passed, M failed'. An order counts five: written, held to the others, cut, in loans that lack
- * something, with bytes behind it; an example one more. A list counts one read, and one for each size of pieces. The exit status is 1 if one fails. */
+ * read alone. Compared are every field of an answer but one place, every byte written, the loans after a finished reading of an order and after a refused one,
+ * the state and the loans after a begin, and the state of an order that was fed with bytes behind it, each with its guard. Prints what differs, and last
+ * 'N passed, M failed'. An order counts five: written, held to the others, cut, in loans that lack something, with bytes behind it; an example one more. A list
+ * counts one read, and one for each size of pieces. The exit status is 1 if one fails. */
 #include "made.h"
 
 /* A tree, the bytes it is written as, and what reading these alone gives. */
