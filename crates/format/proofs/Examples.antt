@@ -3,7 +3,7 @@ use mathlib.Core.Path.{_≡_, refl}
 use mathlib.Core.List.{List, [], _∷_, _++_, map}
 use Prim.Native.Nat.{ℕ, zero, suc, _+_, _*_, _-_, _^_}
 use lib.Ieee as ieee
-use lib.ListN.{length, replicate}
+use lib.ListN.{length, replicate, take}
 use Rattle.rows.specs.declared.Cursor.{Cursor}
 use Rattle.format.specs.declared.Answer.{Answer}
 use Rattle.format.specs.declared.Answer.the-variants.{Waiting, Finished, Refused}
@@ -204,7 +204,8 @@ abbrev due : Sent → a.Output
 due (sent R B bytes) = a.output (Bytes (length bytes)) bytes
 
 -- ---- the others: what waits, two deep messages, the array of two "a" written, also where the output is too short, a message fed byte by byte that
--- lacks a row, fewer rows lent than at the beginning, and the orders: each written, all of them read in turn, and fed in turn byte by byte
+-- lacks a row, fewer rows lent than at the beginning, and the orders: each written, all of them read in turn, and four
+-- of them fed in turn byte by byte
 
 pub data Waits : Type 0 where
   waiting : Cursor → m.Memory → Waits
@@ -250,7 +251,7 @@ pub others :
     × (relent (a.beginCall lent) (m.memory (replicate 60 0) (replicate 16 0) (replicate 4 0) (replicate 4 0) (replicate 10 0) (replicate 2 0)) (0x01 ∷ []) ≡ Refused 12 0 0 0)
     × (map writes orders ≡ map due orders)
     × (q.readInTurn 11 lent (joined (map bytesSent orders)) ≡ q.findings (map bytesSent orders) (map treeSent orders) [])
-    × (q.fedInTurn 60 (a.beginCall lent) (map (λ b. b ∷ []) (joined (map bytesSent orders))) ≡ q.fedFindings (map treeSent orders) (a.beginCall lent) [])
+    × (q.fedInTurn 17 (a.beginCall lent) (map (λ b. b ∷ []) (joined (map bytesSent (take 4 orders)))) ≡ q.fedFindings (map treeSent (take 4 orders)) (a.beginCall lent) [])
 unfolding u.partOf u.groups u.moreOf u.u29 w.sizeOf w.shapeOf z.integerOf z.columnOf z.ofColumn n.numberOf n.bytesOf n.digitOf y.finite y.refusedDate y.dateOf o.tells o.sayable
     x.stepOf x.foldOf g.follow g.validText m.messageLimit m.openLimit m.loanFault m.zeroed m.putRow m.col d.kindOf d.newRow d.marker d.closed d.numbered
     d.integerEnd d.dateEnd d.bodied d.classed d.objectClass d.vectorClass d.flagged d.counted d.keyEnd d.grown d.oldText d.reserved d.stored d.judged d.textEnd d.entered

@@ -72,10 +72,6 @@ readInTurn (suc n) m message = afterRead (readInTurn n) message (readCall m mess
 pub data FedFindings : Type 0 where
   fedFindings : List Tree → Fed → List (List ℕ) → FedFindings
 
--- with the tree of the first reading
-abbrev pub fedFirst : Tree → FedFindings → FedFindings
-fedFirst t (fedFindings trees f left) = fedFindings (t ∷ trees) f left
-
 -- trees that were found before
 abbrev pub foundBefore : List Tree → FedFindings → FedFindings
 foundBefore before (fedFindings trees f left) = fedFindings (before ++ trees) f left
@@ -83,7 +79,7 @@ foundBefore before (fedFindings trees f left) = fedFindings (before ++ trees) f 
 -- what waits gets the next piece; after a finished reading another is begun, in the loans as it left them, and gets the rest of the piece; a refused one is the last
 abbrev pub afterFeed : (Fed → List (List ℕ) → FedFindings) → List ℕ → List (List ℕ) → Fed → FedFindings
 afterFeed next piece pieces (fed (Waiting taken) state m) = next (fed (Waiting taken) state m) pieces
-afterFeed next piece pieces (fed (Finished rows bytes taken) state m) = fedFirst (treeRead rows m) (next (beginCall m) (drop taken piece ∷ pieces))
+afterFeed next piece pieces (fed (Finished rows bytes taken) state m) = foundBefore (treeRead rows m ∷ []) (next (beginCall m) (drop taken piece ∷ pieces))
 afterFeed next piece pieces (fed (Refused number told place taken) state m) = fedFindings [] (fed (Refused number told place taken) state m) (drop taken piece ∷ pieces)
 
 -- at most so many feeds

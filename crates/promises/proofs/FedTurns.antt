@@ -17,7 +17,7 @@ use Rattle.format.specs.declared.Answer.the-variants.{Finished}
 use Rattle.format.specs.Numbers.{Numbers, lentOf}
 use Rattle.format.specs.Answers.{Fed, fed, answered, beginCall, runHeld, takenBy}
 use Rattle.format.specs.Claims.{joined, fedBy, fedPieces, tally, treeRead, Returns}
-use Rattle.format.specs.Orders.{Order, orderBytes, orderTree, backToBack, HoldsEach, FedFindings, fedFindings, fedFirst, foundBefore, afterFeed, fedInTurn}
+use Rattle.format.specs.Orders.{Order, orderBytes, orderTree, backToBack, HoldsEach, FedFindings, fedFindings, foundBefore, afterFeed, fedInTurn}
 use Rattle.format.proofs.Tests.{clash}
 use Rattle.format.proofs.Lengths.{same-lent}
 use Rattle.format.proofs.Feeding.{feeding}
@@ -85,7 +85,7 @@ Finds n =
     → Goes n os m parts rest (fedInTurn n (answered (runHeld (first m) had) i) parts)
 
 -- trees before trees
-before-first : (t : Tree) (ts : List Tree) (x : FedFindings) → fedFirst t (foundBefore ts x) ≡ foundBefore (t ∷ ts) x
+before-first : (t : Tree) (ts : List Tree) (x : FedFindings) → foundBefore (t ∷ []) (foundBefore ts x) ≡ foundBefore (t ∷ ts) x
 before-first t ts (fedFindings us f left) = refl
 
 before-none : (x : FedFindings) → x ≡ foundBefore [] x
@@ -131,7 +131,7 @@ module _ (n : ℕ) (finds : Finds n) (p : Order) (os : List Order) (m : Memory) 
         lengths = g .lengths ∙ same;
         joins = g .joins;
         counts = omega (arith, g .counts);
-        finds = feeds-next m had piece o all n i pieces c k q ∙ ap (fedFirst (treeRead (c .rows) k)) (g .finds)
+        finds = feeds-next m had piece o all n i pieces c k q ∙ ap (foundBefore (treeRead (c .rows) k ∷ [])) (g .finds)
             ∙ before-first (treeRead (c .rows) k) (map orderTree os) after ∙ ap (λ (t : Tree). foundBefore (t ∷ map orderTree os) after) u;
       }
 
@@ -262,7 +262,7 @@ module _ (n : ℕ) (only : Only n) (m : Memory) (had piece : List ℕ) (i : ℕ)
   any-feed (p ∷ os) (over (finished c k)) e q =
       let (a, u) = order-is p m (backToBack os) c k (ends-first p os c k e q) in
       let (j, f, left, g) = only os k [] 0 (drop (count m had piece o all) piece ∷ pieces) (rest-is m had piece o all p (backToBack os) c k pieces q a e) (none-taken k) in
-      (suc j, f, left, feeds-next m had piece o all n i pieces c k q ∙ ap (fedFirst (treeRead (c .rows) k)) g ∙ ap (λ (t : Tree). fedFindings (t ∷ map orderTree (take j os)) f left) u)
+      (suc j, f, left, feeds-next m had piece o all n i pieces c k q ∙ ap (foundBefore (treeRead (c .rows) k ∷ [])) g ∙ ap (λ (t : Tree). fedFindings (t ∷ map orderTree (take j os)) f left) u)
   any-feed os (over (refused number told place k)) e q = (0, _, _, feeds-last m had piece o all n i pieces (rw q tt))
   any-feed os (none k) e q = (0, _, _, feeds-last m had piece o all n i pieces (rw q tt))
 

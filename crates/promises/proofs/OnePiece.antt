@@ -13,7 +13,7 @@ use Rattle.format.specs.Step.{State, wait, over, none, run, end, begin}
 use Rattle.format.specs.Numbers.{Held, held, lentOf, stateOf, memoryOf, afterStep}
 use Rattle.format.specs.Answers.{Fed, fed, answerOf, answered, blank, beginCall, runHeld, stateIn, takenBy}
 use Rattle.format.specs.Claims.{joined, fedBy, treeRead}
-use Rattle.format.specs.Orders.{Order, orderBytes, FedFindings, fedFindings, fedFirst, afterFeed, fedInTurn}
+use Rattle.format.specs.Orders.{Order, orderBytes, FedFindings, fedFindings, foundBefore, afterFeed, fedInTurn}
 use Rattle.format.proofs.Feeding.{feeding}
 use Rattle.format.proofs.Pieces.{taken-most}
 use Rattle.format.proofs.Shows.{shows-run, shows-begin, taken-run, memory-of}
@@ -51,7 +51,7 @@ module _ (next : Fed → List (List ℕ) → FedFindings) (piece : List ℕ) (pi
       of (none m) w = absurd w
 
   on-finishes : (h : Held) (k : ℕ) (c : Cursor) (l : Memory) → stateIn h ≡ over (finished c l)
-      → afterFeed next piece pieces (answered h k) ≡ fedFirst (treeRead (c .rows) l) (next (beginCall l) (drop k piece ∷ pieces))
+      → afterFeed next piece pieces (answered h k) ≡ foundBefore (treeRead (c .rows) l ∷ []) (next (beginCall l) (drop k piece ∷ pieces))
   on-finishes (held s l₀) k c l e = let i : l ≡ l₀ = sym (ap memoryOf e) ∙ memory-of s l₀ in rw (e, i)
 
   on-last : (h : Held) (k : ℕ) → Last (stateIn h) → afterFeed next piece pieces (answered h k) ≡ fedFindings [] (answered h k) (drop k piece ∷ pieces)
@@ -115,11 +115,11 @@ module _ (m : Memory) (had piece : List ℕ) (o : Bytes (had ++ piece)) (all : t
 
     pub feeds-next : (c : Cursor) (k : Memory) → run (begin m) (had ++ piece) ≡ over (finished c k)
         → fedInTurn (suc n) (answered (runHeld (first m) had) i) (piece ∷ pieces)
-        ≡ fedFirst (treeRead (c .rows) k) (fedInTurn n (answered (runHeld (first k) []) 0) (drop count piece ∷ pieces))
+        ≡ foundBefore (treeRead (c .rows) k ∷ []) (fedInTurn n (answered (runHeld (first k) []) 0) (drop count piece ∷ pieces))
     unfolding fedInTurn
     feeds-next c k q =
         fed-piece (fedInTurn n) pieces i ∙ on-finishes (fedInTurn n) piece pieces (runHeld (first m) (had ++ piece)) count c k (state-after m (had ++ piece) o ∙ q)
-        ∙ ap (λ (f : Fed). fedFirst (treeRead (c .rows) k) (fedInTurn n f (drop count piece ∷ pieces))) (begin-first k)
+        ∙ ap (λ (f : Fed). foundBefore (treeRead (c .rows) k ∷ []) (fedInTurn n f (drop count piece ∷ pieces))) (begin-first k)
 
     pub feeds-last : Last (run (begin m) (had ++ piece))
         → fedInTurn (suc n) (answered (runHeld (first m) had) i) (piece ∷ pieces) ≡ fedFindings [] (answered (runHeld (first m) (had ++ piece)) count) (drop count piece ∷ pieces)
