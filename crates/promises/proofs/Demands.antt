@@ -615,11 +615,11 @@ pub piece-by-piece : (os : List Order) (m : Memory) → faultOf m ≡ 0 → Hold
     → (n : ℕ) → length os + length parts ≤ n → fedInTurn n (beginCall m) parts ≡ fedFindings (map orderTree os) (beginCall m) []
 piece-by-piece = fed-turns.piece-by-piece
 
--- bytes behind the orders go to a reading that is begun in loans of the same lengths; each feed before it took a piece or finished an order
+-- bytes behind the orders go to a reading that begins as the first one did; each feed before it took a piece or finished an order
 pub pieces-in-turn : (os : List Order) (m : Memory) → faultOf m ≡ 0 → HoldsEach m os → (parts : List (List ℕ)) (rest : List ℕ) → Bytes rest
     → joined parts ≡ backToBack os ++ rest → (n : ℕ) → length os + length parts ≤ n
-    → (k : Memory) × (pieces : List (List ℕ)) × (j : ℕ) × (lentOf k ≡ lentOf m) × (joined pieces ≡ rest)
-    × (n + length pieces ≡ j + (length os + length parts)) × (fedInTurn n (beginCall m) parts ≡ foundBefore (map orderTree os) (fedInTurn j (beginCall k) pieces))
+    → (pieces : List (List ℕ)) × (j : ℕ) × (joined pieces ≡ rest) × (n + length pieces ≡ j + (length os + length parts))
+    × (fedInTurn n (beginCall m) parts ≡ foundBefore (map orderTree os) (fedInTurn j (beginCall m) pieces))
 pieces-in-turn = fed-turns.pieces-in-turn
 
 -- and with any loans trees of orders from the first one on, and no others

@@ -162,14 +162,22 @@ finds (suc n) (o ∷ os) m f h had i (piece ∷ pieces) rest some e b w l =
     next-feed n (finds n) o os m f h had piece i pieces rest w (front-bytes x (joined pieces) (rw q b)) e b (omega (arith, l)) (run (begin m) x) refl
     (way o (backToBack os ++ rest) m f (h .0) x (joined pieces) (q ∙ append-assoc (orderBytes o) (backToBack os) rest))
 
+-- loans of the same lengths begin alike
+begin-alike : (m k : Memory) → lentOf k ≡ lentOf m → faultOf m ≡ 0 → beginCall k ≡ beginCall m
+unfolding zeroed
+begin-alike m k same f =
+    let l = same-lent k m same in
+    begin-waits k (lent-again m k same f) ∙ rw (same, l .rows, l .store, l .strings, l .objects, l .traits, l .names) (sym (begin-waits m f))
+
 module _ (os : List Order) (m : Memory) (lent : faultOf m ≡ 0) (holds : HoldsEach m os) (parts : List (List ℕ)) where
   -- pieces that begin with the orders' bytes, and then have others
   pub pieces-in-turn : (rest : List ℕ) → Bytes rest → joined parts ≡ backToBack os ++ rest → (n : ℕ) → length os + length parts ≤ n
-      → (k : Memory) × (pieces : List (List ℕ)) × (j : ℕ) × (lentOf k ≡ lentOf m) × (joined pieces ≡ rest)
-      × (n + length pieces ≡ j + (length os + length parts)) × (fedInTurn n (beginCall m) parts ≡ foundBefore (map orderTree os) (fedInTurn j (beginCall k) pieces))
+      → (pieces : List (List ℕ)) × (j : ℕ) × (joined pieces ≡ rest) × (n + length pieces ≡ j + (length os + length parts))
+      × (fedInTurn n (beginCall m) parts ≡ foundBefore (map orderTree os) (fedInTurn j (beginCall m) pieces))
   pieces-in-turn rest b e n l =
       let g = finds n os m lent holds [] 0 parts rest (ready os) e (append-bytes (backToBack os) rest (orders-octets os) b) (begin-run m lent) l in
-      (g .loans, g .pieces, g .feeds, g .lengths, g .joins, g .counts, ap (λ (f : Fed). fedInTurn n f parts) (begin-first m) ∙ g .finds)
+      let begun = ap (λ (f : Fed). foundBefore (map orderTree os) (fedInTurn (g .feeds) f (g .pieces))) (begin-alike m (g .loans) (g .lengths) lent) in
+      (g .pieces, g .feeds, g .joins, g .counts, ap (λ (f : Fed). fedInTurn n f parts) (begin-first m) ∙ g .finds ∙ begun)
 
 -- a piece of no bytes leaves a reading as it began
 fed-none : (k : Memory) → fedBy (beginCall k) [] ≡ beginCall k
@@ -191,20 +199,12 @@ nothing-fed k f (suc n) [] e l = refl
 nothing-fed k f (suc n) ([] ∷ pieces) e l = rw (fed-none k) (begun-on k f (fedInTurn n) [] pieces ∙ nothing-fed k f n pieces e (omega arith))
 nothing-fed k f (suc n) ((b ∷ piece) ∷ pieces) e l = clash cc
 
--- loans of the same lengths begin alike
-begin-alike : (m k : Memory) → lentOf k ≡ lentOf m → faultOf m ≡ 0 → beginCall k ≡ beginCall m
-unfolding zeroed
-begin-alike m k same f =
-    let l = same-lent k m same in
-    begin-waits k (lent-again m k same f) ∙ rw (same, l .rows, l .store, l .strings, l .objects, l .traits, l .names) (sym (begin-waits m f))
-
 -- pieces of the orders' bytes and nothing else: in the end all is as begin left it
 pub piece-by-piece : (os : List Order) (m : Memory) → faultOf m ≡ 0 → HoldsEach m os → (parts : List (List ℕ)) → joined parts ≡ backToBack os
     → (n : ℕ) → length os + length parts ≤ n → fedInTurn n (beginCall m) parts ≡ fedFindings (map orderTree os) (beginCall m) []
 piece-by-piece os m f h parts e n l =
-    let (k, pieces, j, same, joins, counts, q) = pieces-in-turn os m f h parts [] (λ i. lit< tt) (e ∙ sym (append-nil (backToBack os))) n l in
-    q ∙ ap (foundBefore (map orderTree os)) (nothing-fed k (lent-again m k same f) j pieces joins (omega (arith, counts, l)))
-    ∙ rw (append-nil (map orderTree os), begin-alike m k same f)
+    let (pieces, j, joins, counts, q) = pieces-in-turn os m f h parts [] (λ i. lit< tt) (e ∙ sym (append-nil (backToBack os))) n l in
+    q ∙ ap (foundBefore (map orderTree os)) (nothing-fed m f j pieces joins (omega (arith, counts, l))) ∙ rw (append-nil (map orderTree os))
 
 -- ---- with any loans
 
