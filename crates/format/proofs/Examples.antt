@@ -204,8 +204,7 @@ abbrev due : Sent → a.Output
 due (sent R B bytes) = a.output (Bytes (length bytes)) bytes
 
 -- ---- the others: what waits, two deep messages, the array of two "a" written, also where the output is too short, a message fed byte by byte that
--- lacks a row, fewer rows lent than at the beginning, and the orders: each written, all of them read in turn, and four
--- of them fed in turn byte by byte
+-- lacks a row, fewer rows lent than at the beginning, and the orders: each written, all of them read in turn, and four of them fed in turn byte by byte
 
 pub data Waits : Type 0 where
   waiting : Cursor → m.Memory → Waits

@@ -238,6 +238,3 @@ prefix-free t u h k x y e =
     let (s′, e₂) = standard-round u k y in
     let both : ok t s (length (encode t)) x ≡ ok u s′ (length (encode u)) y = sym e₁ ∙ ap standard e ∙ e₂ in
     (cc, cc)
-
-pub encode-injective : (t u : Tree) → Writable t → Writable u → encode t ≡ encode u → t ≡ u
-encode-injective t u h k e = prefix-free t u h k [] [] (ap (λ (l : List ℕ). l ++ []) e) .0
