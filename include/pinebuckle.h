@@ -33,7 +33,7 @@ enum {
     PB_BODY_BEGIN = 4, PB_BODY_LENGTH = 5, /* text, bytes, raw vector bytes, or the class */
     PB_CLASS_MARK = 6,
     PB_FLAG = 7,     /* fixed, weak */
-    PB_NUMBER = 8,   /* boolean, integer in two's complement, a double's bits, milliseconds, target row */
+    PB_NUMBER = 8,   /* boolean, integer in two's complement, a double's 64 bits, a date's too, target row */
     PB_COUNT = 9,    /* associative, sealed, entries */
     PB_COUNT_2 = 10, /* dense, dynamic */
     PB_END = 11      /* the row after the last descendant, 0 while open */
@@ -54,14 +54,14 @@ enum {
     PB_NO_ENTRY = 4,       /* a reference past its table; the index */
     PB_OPEN_OBJECT = 5,    /* a reference to an object still open; the index */
     PB_EXTERNALIZABLE = 6,
-    PB_BAD_DATE = 7,       /* the 64 bits */
+    PB_BAD_DATE = 7,       /* a date that is NaN or infinite; the 64 bits */
     PB_BAD_TEXT = 8,
     PB_TOO_DEEP = 9,
     PB_NO_ROOM = 10,       /* the loan; 7 is the output */
     PB_TOO_LONG = 11,
     PB_LOST = 12,          /* the state doesn't hold together */
     PB_MALFORMED = 13,     /* the row */
-    PB_UNWRITABLE = 14     /* the row */
+    PB_UNWRITABLE = 14     /* the row: no message can say it, such as a date that is NaN or infinite */
 };
 
 /* What an answer says. */
@@ -82,6 +82,12 @@ typedef struct {
 typedef struct {
     size_t found, begin, length;
 } pb_span;
+
+/* A date's milliseconds; found is 0 where there is none. */
+typedef struct {
+    size_t found;
+    int64_t millis;
+} pb_moment;
 
 #define PB_LOANS                                                                                                                                              \
     size_t *rows, size_t rows_len, uint8_t *store, size_t store_len, size_t *strings, size_t strings_len, size_t *objects, size_t objects_len,                \
@@ -107,6 +113,11 @@ pb_answer pb_write(const size_t *rows, size_t rows_len, const uint8_t *store, si
 
 /* Where the text of a row stands in the store. */
 pb_span pb_text(const size_t *rows, size_t rows_len, const uint8_t *store, size_t store_len, size_t row);
+
+/* The milliseconds of a date, from 1970 on, before it negative: cut towards zero, and INT64_MAX or INT64_MIN where they are more or less than that. The row is a
+ * date or refers to one. None (found 0) where the row, or the row that it refers to, isn't there or isn't a date, also where that one is a reference itself; where
+ * the date is NaN or infinite; and where pb_write would refuse the rows or the store with 1. A date's row shows 0 until its last byte is read; PB_END is 0 so long. */
+pb_moment pb_millis(const size_t *rows, size_t rows_len, const uint8_t *store, size_t store_len, size_t row);
 
 #ifdef __cplusplus
 }

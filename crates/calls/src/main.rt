@@ -1,15 +1,18 @@
 // What each public call answers, from a program over pinebuckle alone. The array of two "a" is read in two pieces, with a state that is lent to begin, feed
-// and end, and whole; its texts are asked for, and it is written again; loans of wrong lengths and an early end are refused. Each answer is a line of
-// standard output.
+// and end, and whole; its texts are asked for, and it is written again; a date is asked for its milliseconds; loans of wrong lengths and an early end are
+// refused. Each answer is a line of standard output.
 
 use libc::STDOUT_FILENO;
 use pinebuckle::Answer;
 use pinebuckle::Fed;
+use pinebuckle::Moment;
 use pinebuckle::ROW_WIDTH;
 use pinebuckle::SPAN_WIDTH;
 use pinebuckle::State;
 use pinebuckle::TRAIT_WIDTH;
 use pinebuckle::Written;
+use pinebuckle::columns;
+use pinebuckle::kinds;
 ghost use Rattle.rows.specs.Memory.{atEntry, atExit};
 ghost use Rattle.pinebuckle.specs.Contracts.{BeginContract, FeedContract, EndContract};
 
@@ -34,6 +37,9 @@ const TRAITS: usize = 2 * TRAIT_WIDTH;
 const ARRAY: usize = 0;
 
 const FIRST_STRING: usize = 1;
+
+// The bits of -1.0, a millisecond before 1970.
+const MINUS_ONE: usize = 0xbff0_0000_0000_0000;
 
 // ---- what is printed
 
@@ -109,6 +115,20 @@ fn say_written(w: Written) {
 fn say_text<'a>(rows: &'a [usize], store: &'a [u8], row: usize) {
     say(pinebuckle::text(rows, store, row, b"none"));
     say(b"\n");
+}
+
+// Prints as a line on which side of 1970 the date of a row is, or that it has none.
+fn say_millis(rows: &[usize], store: &[u8], row: usize) {
+    match pinebuckle::millis(rows, store, row) {
+        Moment::None => say(b"none\n"),
+        Moment::At(millis) => {
+            if millis < 0 {
+                say(b"before 1970\n");
+            } else {
+                say(b"since 1970\n");
+            }
+        }
+    }
 }
 
 // Prints an answer, and gives the state that comes with it.
@@ -333,6 +353,15 @@ fn show<'a>(rows: &'a [usize], store: &'a [u8]) {
     write(rows, store);
 }
 
+// A row that is a date a millisecond before 1970, and the array, which is none.
+fn show_dates(rows: &[usize], store: &[u8]) {
+    let mut date = [0usize; ROW_WIDTH];
+    date[columns::KIND] = kinds::DATE;
+    date[columns::NUMBER] = MINUS_ONE;
+    say_millis(&date, store, 0);
+    say_millis(rows, store, ARRAY);
+}
+
 // Lends rows with one to spare, exactly as many, and a number less, which writing refuses with 1 too.
 fn main() {
     let mut roomy = [0usize; ROOMY];
@@ -371,5 +400,6 @@ fn main() {
         &mut names,
     );
     show(&exact, &store);
+    show_dates(&exact, &store);
     write(&uneven, &store);
 }

@@ -18,7 +18,6 @@ use rows::Trait;
 use rows::columns;
 use rows::kinds;
 use rows::loans;
-use wire::Date;
 use wire::markers;
 ghost use mathlib.Core.Path.{_≡_};
 ghost use mathlib.Core.Bool.{cond};
@@ -378,11 +377,10 @@ pub fn date_end(rows: &mut [usize], c: Cursor, row: usize, bits: usize) -> Done
     if !rows::row_used(rows.len(), c.rows, row) {
         return Done::Refused(lost());
     }
-    let date = wire::date_millis(bits);
-    match date {
-        Date::Millis(n) => numbered(rows, c, row, n),
-        Date::Refused => Done::Refused(refuse(c, refusals::BAD_DATE, bits)),
+    if wire::is_date(bits) {
+        return numbered(rows, c, row, bits);
     }
+    Done::Refused(refuse(c, refusals::BAD_DATE, bits))
 }
 
 // The row's body.

@@ -40,10 +40,10 @@ pub data Example : Type 0 where
 abbrev pub row : ℕ → List ℕ → ℕ → ℕ → ℕ → ℕ → ℕ → ℕ → List ℕ
 row kind key begin size number count count2 end = kind ∷ key ++ begin ∷ size ∷ 0 ∷ 0 ∷ number ∷ count ∷ count2 ∷ end ∷ []
 
-abbrev keyless : List ℕ
+abbrev pub keyless : List ℕ
 keyless = 0 ∷ 0 ∷ 0 ∷ []
 
--- those marked to be proved, two that are not, and seven more: a sealed member, a vector of class `*`, references to an array, to an object, to a date, to
+-- those marked to be proved, two that are not, and eight more: a date that isn't finite, a sealed member, a vector of class `*`, references to an array, to an object, to a date, to
 -- the second trait, and to strings that were a class and a key
 abbrev pub examples : List Example
 examples =
@@ -62,7 +62,8 @@ examples =
     ∷ example (0x0A ∷ 0x0B ∷ 0x01 ∷ 0x03 ∷ 0x61 ∷ 0x04 ∷ 0x01 ∷ 0x01 ∷ [])
     (gives 8 (row 10 keyless 0 0 0 0 1 2 ∷ row 4 (1 ∷ 0 ∷ 1 ∷ []) 0 0 1 0 0 2 ∷ []) (0x61 ∷ []) (0 ∷ 1 ∷ []) (0 ∷ []) (0 ∷ 0 ∷ 1 ∷ 0 ∷ 0 ∷ []) [])
     ∷ example (0x12 ∷ []) (refuses 3 0x12 1)
-    ∷ example (0x08 ∷ 0x01 ∷ 0x80 ∷ replicate 7 0x00) (refuses 7 (2 ^ 63) 10)
+    ∷ example (0x08 ∷ 0x01 ∷ 0x80 ∷ replicate 7 0x00) (gives 10 (row 8 keyless 0 0 (2 ^ 63) 0 0 1 ∷ []) [] [] (0 ∷ []) [] [])
+    ∷ example (0x08 ∷ 0x01 ∷ 0xFF ∷ 0xF0 ∷ replicate 6 0x00) (refuses 7 0xFFF0_0000_0000_0000 10)
     ∷ example (0x0A ∷ 0x13 ∷ 0x01 ∷ 0x03 ∷ 0x61 ∷ 0x04 ∷ 0x01 ∷ [])
     (gives 7 (row 10 keyless 0 0 0 1 0 2 ∷ row 4 (1 ∷ 0 ∷ 1 ∷ []) 0 0 1 0 0 2 ∷ []) (0x61 ∷ []) (0 ∷ 1 ∷ []) (0 ∷ []) (0 ∷ 0 ∷ 0 ∷ 0 ∷ 1 ∷ []) (0 ∷ 1 ∷ []))
     ∷ example (0x10 ∷ 0x03 ∷ 0x00 ∷ 0x03 ∷ 0x2A ∷ 0x01 ∷ [])
@@ -72,7 +73,7 @@ examples =
     ∷ example (0x09 ∷ 0x05 ∷ 0x01 ∷ 0x0A ∷ 0x03 ∷ 0x01 ∷ 0x0A ∷ 0x02 ∷ [])
     (gives 8 (row 9 keyless 0 0 0 0 2 3 ∷ row 10 keyless 0 0 0 0 0 2 ∷ row 18 keyless 0 0 1 0 0 3 ∷ []) [] [] (0 ∷ 1 ∷ []) (replicate 5 0) [])
     ∷ example (0x09 ∷ 0x05 ∷ 0x01 ∷ 0x08 ∷ 0x01 ∷ 0x3F ∷ 0xF0 ∷ replicate 6 0x00 ++ 0x08 ∷ 0x02 ∷ [])
-    (gives 15 (row 9 keyless 0 0 0 0 2 3 ∷ row 8 keyless 0 0 1 0 0 2 ∷ row 18 keyless 0 0 1 0 0 3 ∷ []) [] [] (0 ∷ 1 ∷ []) [] [])
+    (gives 15 (row 9 keyless 0 0 0 0 2 3 ∷ row 8 keyless 0 0 0x3FF0_0000_0000_0000 0 0 2 ∷ row 18 keyless 0 0 1 0 0 3 ∷ []) [] [] (0 ∷ 1 ∷ []) [] [])
     ∷ example (0x09 ∷ 0x07 ∷ 0x01 ∷ 0x0A ∷ 0x03 ∷ 0x01 ∷ 0x0A ∷ 0x13 ∷ 0x01 ∷ 0x03 ∷ 0x61 ∷ 0x01 ∷ 0x0A ∷ 0x05 ∷ 0x01 ∷ [])
     (gives 15 (row 9 keyless 0 0 0 0 3 6 ∷ row 10 keyless 0 0 0 0 0 2 ∷ row 10 keyless 0 0 0 1 0 4 ∷ row 2 (1 ∷ 0 ∷ 1 ∷ []) 0 0 0 0 0 4
     ∷ row 10 keyless 0 0 0 1 0 6 ∷ row 2 (1 ∷ 0 ∷ 1 ∷ []) 0 0 0 0 0 6 ∷ [])
@@ -152,7 +153,7 @@ wanted (example bytes w) = outcome (a.read (answer w (λ n. n)) (loans w)) (drib
 -- ---- the proof over the list
 
 pub proved : map becomes examples ≡ map wanted examples
-unfolding u.partOf u.groups u.moreOf u.u29 w.sizeOf w.shapeOf z.integerOf z.columnOf z.ofColumn n.numberOf n.bytesOf n.digitOf y.finite y.refusedDate y.dateOf o.tells o.sayable
+unfolding u.partOf u.groups u.moreOf u.u29 w.sizeOf w.shapeOf z.integerOf z.columnOf z.ofColumn n.numberOf n.bytesOf n.digitOf y.finite y.refusedDate o.tells o.sayable
     x.stepOf x.foldOf g.follow g.validText m.messageLimit m.openLimit m.loanFault m.zeroed m.putRow m.col d.kindOf d.newRow d.marker d.closed d.numbered
     d.integerEnd d.dateEnd d.bodied d.classed d.objectClass d.vectorClass d.flagged d.counted d.keyEnd d.grown d.oldText d.reserved d.stored d.judged d.textEnd d.entered
     d.referred d.traitHolds d.oldTrait d.named d.traitEnd d.sealedKey d.starred r.byte r.u29 r.number r.chars r.fill r.textOf r.text r.entries r.pair r.pairsBy r.pairs r.couple
@@ -166,7 +167,7 @@ unfolding u.partOf u.groups u.moreOf u.u29 w.sizeOf w.shapeOf z.integerOf z.colu
     v.pairsAt v.entriesAt v.node v.treeAt v.unfolded f.spanFits f.markFits f.columnsFit f.signedFits f.valueFits f.children f.closes f.gives f.parentIn f.numberIn f.given
     f.wellFormed f.numberWritable f.bodyWritable f.keyWritable f.writable f.testFrom f.tested e._then_ e.these e.streamBytes e.isDeep e.emitTrees e.emitPairs
     e.emitValues e.emitDynamic e.emitEntries e.emitIn e.emit e.settle e.writing a.beginCall a.runHeld a.takenBy a.feedCall a.endCall a.readCall a.writeCall
-    ieee.odd ieee.ofFields ieee.ofBits ieee.toUnsigned
+    ieee.odd ieee.ofFields ieee.ofBits
 proved = refl
 
 -- ---- orders, each a table and the bytes that are written of it
@@ -174,7 +175,8 @@ proved = refl
 pub data Sent : Type 0 where
   sent : List (List ℕ) → List ℕ → List ℕ → Sent
 
--- null, the array of two "a", null; the integers 1 and -1; a dynamic object; an array of nothing and one of a null; an int vector of nothing, fixed and not
+-- null, the array of two "a", null; the integers 1 and -1; a dynamic object; an array of nothing and one of a null; an int vector of nothing, fixed and not;
+-- the date behind -1.5
 abbrev orders : List Sent
 orders =
     sent (row 2 keyless 0 0 0 0 0 1 ∷ []) [] (0x01 ∷ [])
@@ -188,6 +190,7 @@ orders =
     ∷ sent (row 9 keyless 0 0 0 0 1 2 ∷ row 2 keyless 0 0 0 0 0 2 ∷ []) [] (0x09 ∷ 0x03 ∷ 0x01 ∷ 0x01 ∷ [])
     ∷ sent ((13 ∷ keyless ++ 0 ∷ 0 ∷ 0 ∷ 1 ∷ 0 ∷ 0 ∷ 0 ∷ 1 ∷ []) ∷ []) [] (0x0D ∷ 0x01 ∷ 0x01 ∷ [])
     ∷ sent (row 13 keyless 0 0 0 0 0 1 ∷ []) [] (0x0D ∷ 0x01 ∷ 0x00 ∷ [])
+    ∷ sent (row 8 keyless 0 0 0xBFF8_0000_0000_0001 0 0 1 ∷ []) [] (0x08 ∷ 0x01 ∷ 0xBF ∷ 0xF8 ∷ replicate 5 0x00 ++ 0x01 ∷ [])
     ∷ []
 
 abbrev bytesSent : Sent → List ℕ
@@ -249,9 +252,9 @@ pub others :
     × (dribble (0x09 ∷ 0x0D ∷ 0x01 ∷ replicate 6 0x01) (a.beginCall lent) 0 ≡ dribbled (Refused 10 1 9 0) (loans (refuses 10 1 9)) 9)
     × (relent (a.beginCall lent) (m.memory (replicate 60 0) (replicate 16 0) (replicate 4 0) (replicate 4 0) (replicate 10 0) (replicate 2 0)) (0x01 ∷ []) ≡ Refused 12 0 0 0)
     × (map writes orders ≡ map due orders)
-    × (q.readInTurn 11 lent (joined (map bytesSent orders)) ≡ q.findings (map bytesSent orders) (map treeSent orders) [])
+    × (q.readInTurn 12 lent (joined (map bytesSent orders)) ≡ q.findings (map bytesSent orders) (map treeSent orders) [])
     × (q.fedInTurn 17 (a.beginCall lent) (map (λ b. b ∷ []) (joined (map bytesSent (take 4 orders)))) ≡ q.fedFindings (map treeSent (take 4 orders)) (a.beginCall lent) [])
-unfolding u.partOf u.groups u.moreOf u.u29 w.sizeOf w.shapeOf z.integerOf z.columnOf z.ofColumn n.numberOf n.bytesOf n.digitOf y.finite y.refusedDate y.dateOf o.tells o.sayable
+unfolding u.partOf u.groups u.moreOf u.u29 w.sizeOf w.shapeOf z.integerOf z.columnOf z.ofColumn n.numberOf n.bytesOf n.digitOf y.finite y.refusedDate o.tells o.sayable
     x.stepOf x.foldOf g.follow g.validText m.messageLimit m.openLimit m.loanFault m.zeroed m.putRow m.col d.kindOf d.newRow d.marker d.closed d.numbered
     d.integerEnd d.dateEnd d.bodied d.classed d.objectClass d.vectorClass d.flagged d.counted d.keyEnd d.grown d.oldText d.reserved d.stored d.judged d.textEnd d.entered
     d.referred d.traitHolds d.oldTrait d.named d.traitEnd d.sealedKey d.starred r.byte r.u29 r.number r.chars r.fill r.textOf r.text r.entries r.pair r.pairsBy r.pairs r.couple
@@ -265,5 +268,5 @@ unfolding u.partOf u.groups u.moreOf u.u29 w.sizeOf w.shapeOf z.integerOf z.colu
     v.pairsAt v.entriesAt v.node v.treeAt v.unfolded f.spanFits f.markFits f.columnsFit f.signedFits f.valueFits f.children f.closes f.gives f.parentIn f.numberIn f.given
     f.wellFormed f.numberWritable f.bodyWritable f.keyWritable f.writable f.testFrom f.tested e._then_ e.these e.streamBytes e.isDeep e.emitTrees e.emitPairs
     e.emitValues e.emitDynamic e.emitEntries e.emitIn e.emit e.settle e.writing a.beginCall a.runHeld a.takenBy a.feedCall a.endCall a.readCall a.writeCall
-    q.readInTurn q.fedInTurn ieee.odd ieee.ofFields ieee.ofBits ieee.toUnsigned
+    q.readInTurn q.fedInTurn ieee.odd ieee.ofFields ieee.ofBits
 others = (refl, refl, refl, refl, refl, refl, refl, refl, refl, refl)

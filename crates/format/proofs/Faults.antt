@@ -6,9 +6,10 @@ use mathlib.Core.List.{List}
 use Prim.Native.Nat.{ℕ, zero, suc, _+_, _*_, _-_, _^_, _≤_, _<_}
 use native.Mathlib.Omega.{arith}
 use native.Mathlib.Decide.{ℕ-discrete}
-use borrow.Author.Tests.{leb-true, leb-false, ltb-true, ltb-false, eqb-true, eq-eqb, ne-eqb, le-ltb, lt-leb}
+use borrow.Author.Tests.{leb-true, leb-false, ltb-true, ltb-false, eqb-true, eq-eqb, ne-eqb, le-ltb, lt-leb, not-false}
 use lib.Dec.{leb, ltb, eqb, lit≤}
 use lib.ListN.{length}
+use Rattle.wire.specs.Date.{refusedDate}
 use Rattle.rows.specs.Memory.{rowsIn, col, colKind, colKeyMark, colKeyBegin, colKeySize, colBodyBegin, colBodySize, colClassMark, colFlag, colNumber, colCount}
 use Rattle.rows.specs.Memory.{colCount2, colEnd}
 use Rattle.rows.specs.Kinds.{kindUndefined, kindBoolean, kindInteger, kindDate, kindObject, kindObjectVector, kindIntVector, kindUintVector, kindDoubleVector, kindReference}
@@ -337,7 +338,7 @@ module _ (R B : List ℕ) (i : ℕ) where
       on-bool (eqb (col R i colKind) kindInteger)
       (λ t. why.longInteger (eqb-true (col R i colKind) kindInteger t) (outside 28 (col R i colNumber) (lit≤ tt) (rw t at e))) (λ a.
       on-bool (eqb (col R i colKind) kindDate)
-      (λ t. why.lateDate (eqb-true (col R i colKind) kindDate t) (leb-false (col R i colNumber) (2 ^ 53) (rw (a, t) at e)))
+      (λ t. why.noDate (eqb-true (col R i colKind) kindDate t) (not-false (refusedDate (col R i colNumber)) (rw (a, t) at e)))
       (λ t. (let z : true ≡ false = rw (a, t) at e in clash cc)))
 
   -- a class is an object's or a vector's
@@ -396,9 +397,9 @@ module _ (R B : List ℕ) (i : ℕ) where
   unfolding numberWritable
   integer-short e o = let z = signed-fits 28 (col R i colNumber) (lit≤ tt) o in clash cc
 
-  date-early : numberWritable R i kindDate ≡ true → 2 ^ 53 < col R i colNumber → ⊥
+  date-finite : numberWritable R i kindDate ≡ true → refusedDate (col R i colNumber) ≡ true → ⊥
   unfolding numberWritable
-  date-early e l = let k = leb-true (col R i colNumber) (2 ^ 53) e in omega arith
+  date-finite e l = let z : false ≡ true = rw l at e in clash cc
 
   number-of : (k : ℕ) → col R i colKind ≡ k → numberWritable R i (col R i colKind) ≡ true → numberWritable R i k ≡ true
   number-of k q e = rw q at e
@@ -429,7 +430,7 @@ module _ (R B : List ℕ) (i : ℕ) where
   none-unwritable h (why.badClassText c q e) = let k = both (validText (bodyOf R B i)) _ (class-valid c q (h .body)) .0 in clash cc
   none-unwritable h (why.badKeyText e) = let k = h .text in clash cc
   none-unwritable h (why.longInteger q o) = integer-short (number-of kindInteger q (h .number)) o
-  none-unwritable h (why.lateDate q l) = date-early (number-of kindDate q (h .number)) l
+  none-unwritable h (why.noDate q l) = date-finite (number-of kindDate q (h .number)) l
   none-unwritable h (why.emptyKey q z) = key-full (given R i) q (h .full) z
   none-unwritable h (why.emptyClass k q z) =
       let e = both (validText (bodyOf R B i)) _ (class-valid (rw k) q (h .body)) .1 in

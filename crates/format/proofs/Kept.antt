@@ -16,13 +16,11 @@ use Rattle.rows.specs.declared.Key.{Key}
 use Rattle.rows.specs.declared.Trait.{Trait}
 use Rattle.rows.specs.Memory.{Memory, rowWidth, spanWidth, traitWidth, loanFault, faultOf, messageMost, messageLimit, objectsMost}
 use Rattle.rows.specs.Memory.{rowsMost, storeMost}
-use Rattle.wire.specs.declared.Date.{Date}
-use Rattle.wire.specs.declared.Date.the-variants.{Millis, Refused}
-use Rattle.wire.specs.Date.{refusedDate, dateOf}
+use Rattle.wire.specs.Date.{refusedDate}
 use Rattle.format.specs.declared.Lent.{Lent}
-use Rattle.format.specs.Decide.{Out, stop, give, lift, looking, onRows, onStore, onStrings, onObjects, onTraits, onNames, Width}
+use Rattle.format.specs.Decide.{Out, stop, give, refuse, lift, looking, onRows, onStore, onStrings, onObjects, onTraits, onNames, Width}
 use Rattle.format.specs.Decide.{rowsTo, storeTo, stringsTo, objectsTo, traitsTo, namesTo}
-use Rattle.format.specs.Decide.{marker, closed, numbered, integerEnd, dated, dateEnd, bodied, classed, objectClass, vectorClass, flagged, counted, keyEnd}
+use Rattle.format.specs.Decide.{marker, closed, numbered, integerEnd, dateEnd, bodied, classed, objectClass, vectorClass, flagged, counted, keyEnd}
 use Rattle.format.specs.Decide.{grown, oldText, reserved, stored, judged, textEnd, entered, referred, oldTrait, named, traitEnd, sealedKey, starred}
 use Rattle.format.specs.Numbers.{lentOf, finishable}
 use Rattle.format.proofs.Tests.{on-bool, clash, is-true}
@@ -82,11 +80,6 @@ told-open {i} {n} h k = let l : i < objectsMost = omega arith in rw (lt-ltb i ob
 told-date : {bits : ℕ} → refusedDate bits ≡ true → bits < 2 ^ 64 → T (no.tells no.badDate bits)
 unfolding no.tells
 told-date {bits} e h = rw (lt-ltb bits (2 ^ 64) h, e) tt
-
--- a date that is refused has such bits
-date-refused : (bits : ℕ) → dateOf bits ≡ Refused → refusedDate bits ≡ true
-unfolding dateOf
-date-refused bits e = on-bool (refusedDate bits) (λ h. h) (λ h. clash (let f = rw h at e in cc))
 
 -- a refusal at the place of the cursor, which tells what it may where B holds (that the byte is one); or 12
 pub data Says (B : Type 0) (c : Cursor) : ℕ → ℕ → ℕ → Type 0 where
@@ -155,11 +148,11 @@ module _ {B : Type 0} (row : ℕ) (R : List ℕ) (lent : Lent) (c : Cursor) wher
 
   pub keeps-date : (bits : ℕ) → (B → bits < 2 ^ 64) → Keeps B (Long R) Any lent c (dateEnd row bits R c)
   unfolding dateEnd
-  keeps-date bits few = search (keeping, of (dateOf bits) refl)
+  keeps-date bits few = search (keeping, of (refusedDate bits) refl)
     where
-      of : (d : Date) → dateOf bits ≡ d → Keeps B (Long R) Any lent c (dated row bits d R c)
-      of Refused e = refuses (says (λ h. told-date (date-refused bits e) (few h)))
-      of (Millis n) e = keeps-numbered n
+      of : (t : Bool) → refusedDate bits ≡ t → Keeps B (Long R) Any lent c (cond t (refuse no.badDate bits c) (numbered row bits R c))
+      of true e = refuses (says (λ h. told-date e (few h)))
+      of false e = keeps-numbered bits
 
   pub keeps-bodied : (s : Span) → Keeps B (Long R) Any lent c (bodied row s R c)
   unfolding bodied

@@ -14,9 +14,6 @@ use Rattle.rows.specs.declared.Key.{Key}
 use Rattle.rows.specs.declared.Trait.{Trait}
 use Rattle.rows.specs.Memory.{Memory, memory, zeroed, openLimit, noSpan, rowWidth, spanWidth, traitWidth, rowUsed, spanUsed, spanAt}
 use Rattle.rows.specs.Memory.{loanRows, loanStore, loanStrings, loanObjects, loanTraits, loanNames}
-use Rattle.wire.specs.declared.Date.{Date}
-use Rattle.wire.specs.declared.Date.the-variants.{Millis, Refused}
-use Rattle.wire.specs.Date.{dateOf}
 use Rattle.wire.specs.declared.Part.{Part}
 use Rattle.wire.specs.declared.Part.the-variants.{More, Whole, Astray}
 use Rattle.wire.specs.declared.Size.{Size}
@@ -30,7 +27,7 @@ use Rattle.utf8.specs.States.{stepOf}
 use Rattle.format.specs.declared.Frame.{Frame}
 use Rattle.format.specs.Decide.{Out, stop, give, lift, Width, widthOf, Body, xml, date, array, bytes, raw, objects, dictionary, Kind, leaf, integer, double}
 use Rattle.format.specs.Decide.{string, object, sized, kindOf, marker, closed, numbered}
-use Rattle.format.specs.Decide.{integerEnd, dated, dateEnd, bodied, classed, objectClass, vectorClass, flagged, counted, keyEnd, grown, oldText, reserved, stored}
+use Rattle.format.specs.Decide.{integerEnd, dateEnd, bodied, classed, objectClass, vectorClass, flagged, counted, keyEnd, grown, oldText, reserved, stored}
 use Rattle.format.specs.Decide.{judged, textEnd, entered, referred, traitOf, oldTrait, named, traitEnd, traitHolds, sealedKey, starred}
 use Rattle.format.specs.Step.{Pairing, assoc, dynamics, Task, pairsOf, itemsOf, membersOf, keysOf, valuesOf, strange, taskOf, Use, forString, forKey}
 use Rattle.format.specs.Step.{forClass, forExternal, forName, forVector, Text, xmlText, tableText, Word, integerWord, objectWord, sizeWord, textWord}
@@ -125,11 +122,7 @@ module _ {D : Type 0} {E : ℕ → Type 0} {b p : ℕ} where
 
     pub says-date : (row bits : ℕ) (R : List ℕ) → Says D E b p (dateEnd row bits R c)
     unfolding dateEnd
-    says-date row bits R = search (saying, of (dateOf bits))
-      where
-        of : (d : Date) → Says D E b p (dated row bits d R c)
-        of Refused = stops (undated e)
-        of (Millis n) = says-numbered row n R
+    says-date row bits R = search (saying, says-numbered)
 
     pub says-bodied : (row : ℕ) (s : Span) (R : List ℕ) → Says D E b p (bodied row s R c)
     unfolding bodied

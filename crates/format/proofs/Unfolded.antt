@@ -15,6 +15,7 @@ use Rattle.rows.specs.Memory.{rowWidth, colKind, colKeyBegin, colKeySize, colBo
 use Rattle.rows.specs.Memory.{colClassMark, colNumber, colCount, colCount2, colEnd, faultOf, memory}
 use Rattle.rows.specs.Kinds.{kindInteger, kindDate, kindArray, kindObject, kindObjectVector, kindDictionary}
 use Rattle.wire.specs.Sign.{ofColumn}
+use Rattle.wire.specs.Date.{refusedDate}
 use Rattle.wire.proofs.Sign.{signed-low, signed-high}
 use Rattle.utf8.specs.Grammar.{validText}
 use Rattle.format.specs.Standard.{Tree, array, object, objectVector, dictionary, count, countPairs, countEntries, isStar}
@@ -136,9 +137,9 @@ module _ (R B : List ℕ) (few : rowsIn R ≤ rowsMost) (small : length B ≤ st
     unfolding numberWritable
     integer-fits e = column-small (col R i colNumber) (rw e at (rows i h .number))
 
-    date-fits : col R i colKind ≡ kindDate → col R i colNumber ≤ 2 ^ 53
+    date-fits : col R i colKind ≡ kindDate → (col R i colNumber < 2 ^ 64) × (refusedDate (col R i colNumber) ≡ false)
     unfolding numberWritable
-    date-fits e = leb-true (col R i colNumber) (2 ^ 53) (rw e at (rows i h .number))
+    date-fits e = (word i colNumber, not-true (refusedDate (col R i colNumber)) (rw e at (rows i h .number)))
 
     text-fits : validText (bodyOf R B i) ≡ true → IsText (bodyOf R B i)
     text-fits e = record { valid = e; short = short (col R i colBodyBegin) (col R i colBodySize) }

@@ -4,6 +4,7 @@ use mathlib.Core.List.{List, [], _∷_}
 use Prim.Native.Nat.{ℕ, zero, suc, _+_}
 use lib.Dec.{eqb}
 use lib.ListN.{replicate}
+use Rattle.wire.specs.declared.Moment.{Moment}
 use Rattle.rows.specs.Memory.{Memory, fresh}
 use Rattle.format.specs.Refusals as no
 use Rattle.format.specs.declared.Answer.{Answer}
@@ -15,7 +16,7 @@ use Rattle.format.specs.Reading.{Ended, finished, refused, reading}
 use Rattle.format.specs.Step as step
 use Rattle.format.specs.Step.{State, wait, over, none}
 use Rattle.format.specs.Numbers.{Numbers, Held, held, head, noWork, framesSize, lentOf, stateOf, afterStep, byteStep}
-use Rattle.format.specs.Text.{textOr}
+use Rattle.format.specs.Text.{textOr, momentAt}
 use Rattle.format.specs.Writing.{Wrote, written, unwritten, writing}
 
 -- ---- begin, feed and end
@@ -79,7 +80,7 @@ endOf s m (none m′) = answered (afterStep s (over (step.end (none m′)))) 0
 unfoldable pub endCall : Numbers → Memory → Fed
 endCall s m = endOf s m (stateOf s m)
 
--- ---- read, write and text
+-- ---- read, write, text and milliseconds
 
 pub data Read : Type 0 where
   read : Answer → Memory → Read
@@ -105,3 +106,7 @@ writeCall rows store out = writtenOf (writing rows store out)
 -- a part of the store or of the default
 abbrev pub textCall : List ℕ → List ℕ → ℕ → List ℕ → List ℕ
 textCall = textOr
+
+-- a row's milliseconds
+abbrev pub millisCall : List ℕ → List ℕ → ℕ → Moment
+millisCall = momentAt

@@ -11,7 +11,7 @@ use Rattle.rows.specs.Memory.{memory, Memory, zeroed, fresh, messageLimit, noKe
 use Rattle.rows.specs.Memory.{spanWidth, traitWidth, loanStore, loanStrings, loanObjects, loanTraits, rowsMost, storeMost, loanOutput, col, colKeyMark, colKeyBegin, colKeySize, colBodyBegin}
 use Rattle.rows.specs.declared.Cursor.{Cursor}
 use Rattle.rows.specs.declared.Key.{Key}
-use Rattle.rows.specs.Kinds.{kindDate, kindString, kindXmlDocument, kindXml}
+use Rattle.rows.specs.Kinds.{kindString, kindXmlDocument, kindXml}
 use Rattle.wire.specs.Octets.{Bytes}
 use Rattle.format.specs.Reading.{Ended, reading, finished, refused, taken}
 use Rattle.format.specs.Step.{State, over, wait, none, Mode, atMarker}
@@ -249,11 +249,6 @@ pub record Returns (e : Ended) (n : ℕ) (t : Tree) : Type 0 where
 pub data Held-just (m : Memory) (t : Tree) (rest : List ℕ) : Bool → Type 0 where
   holds : Returns (reading m (encode t ++ rest)) (length (encode t)) t → Held-just m t rest true
   lacks : ((c : Cursor) (k : Memory) → reading m (encode t ++ rest) ≢ finished c k) → Held-just m t rest false
-
--- the test passes, or the least faulty row can't be written for its date
-pub data Passes (R : List ℕ) : Tested → Type 0 where
-  passes : Passes R fine
-  late : {i : ℕ} → col R i colKind ≡ kindDate → 2 ^ 53 < col R i colNumber → Passes R (faulty no.unwritable i)
 
 -- rows as the code has them: their numbers have 64 bits
 abbrev pub Wide : List ℕ → Type 0

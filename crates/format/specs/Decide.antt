@@ -13,10 +13,8 @@ use Rattle.rows.specs.declared.Trait.{Trait}
 use Rattle.rows.specs.Memory.{Memory, memory, cursor, rowWidth, spanWidth, traitWidth, colKind, colBodyBegin, colBodySize, colClassMark}
 use Rattle.rows.specs.Memory.{colFlag, colNumber, colCount, colEnd, col, put, rowUsed, span, noSpan, keyOf, spanAt, spanUsed}
 use Rattle.rows.specs.Kinds.{kindReference}
-use Rattle.wire.specs.declared.Date.{Date}
-use Rattle.wire.specs.declared.Date.the-variants.{Millis, Refused}
 use Rattle.wire.specs.Sign.{integerOf, columnOf}
-use Rattle.wire.specs.Date.{dateOf}
+use Rattle.wire.specs.Date.{refusedDate}
 use Rattle.format.specs.Refusals as no
 use Rattle.rows.specs.Memory.{loanRows, loanStore, loanStrings, loanObjects, loanTraits, loanNames}
 pub use Rattle.format.specs.Bodies.{Width, four, eight, widthOf, Body, xml, date, array, bytes, raw, objects, dictionary}
@@ -87,7 +85,7 @@ inRow row f R c = cond (rowUsed R c row) (give tt (f R) c) lost
 unfoldable pub closed : ℕ → List ℕ → Cursor → Out (List ℕ) Unit
 closed row R c = inRow row (λ R. put R row colEnd (c .rows)) R c
 
--- its number is whole, and it ends
+-- its number is there, and it ends
 unfoldable pub numbered : ℕ → ℕ → List ℕ → Cursor → Out (List ℕ) Unit
 numbered row n R c = inRow row (λ R. put (put R row colNumber n) row colEnd (c .rows)) R c
 
@@ -95,12 +93,8 @@ unfoldable pub integerEnd : ℕ → ℕ → List ℕ → Cursor → Out (List �
 integerEnd row w = numbered row (columnOf (integerOf w))
 
 -- a date's eight bytes (12; 7)
-abbrev pub dated : ℕ → ℕ → Date → List ℕ → Cursor → Out (List ℕ) Unit
-dated row bits Refused R c = refuse no.badDate bits c
-dated row bits (Millis n) R c = numbered row n R c
-
 unfoldable pub dateEnd : ℕ → ℕ → List ℕ → Cursor → Out (List ℕ) Unit
-dateEnd row bits R c = cond (rowUsed R c row) (dated row bits (dateOf bits) R c) lost
+dateEnd row bits R c = cond (rowUsed R c row) (cond (refusedDate bits) (refuse no.badDate bits c) (numbered row bits R c)) lost
 
 unfoldable pub bodied : ℕ → Span → List ℕ → Cursor → Out (List ℕ) Unit
 bodied row s R c = inRow row (λ R. put (put R row colBodyBegin (s .begin)) row colBodySize (s .size)) R c

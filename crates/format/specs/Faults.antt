@@ -5,6 +5,7 @@ use mathlib.Core.Logic.{_≢_}
 use mathlib.Core.List.{List}
 use Prim.Native.Nat.{ℕ, suc, _+_, _*_, _^_, _≤_, _<_}
 use lib.ListN.{length}
+use Rattle.wire.specs.Date.{refusedDate}
 use Rattle.rows.specs.Memory.{rowsIn, col, colKind, colKeyMark, colKeyBegin, colKeySize, colBodyBegin, colBodySize, colClassMark, colFlag, colNumber, colCount}
 use Rattle.rows.specs.Memory.{colCount2, colEnd}
 use Rattle.rows.specs.Kinds.{kindUndefined, kindBoolean, kindInteger, kindDate, kindObject, kindObjectVector, kindIntVector, kindUintVector, kindDoubleVector, kindReference}
@@ -74,9 +75,9 @@ pub data Unwritable (R B : List ℕ) (i : ℕ) : Type 0 where
   badText : hasText (col R i colKind) ≡ true → validText (bodyOf R B i) ≡ false → Unwritable R B i
   badClassText : hasClass (col R i colKind) ≡ true → col R i colClassMark ≡ 1 → validText (bodyOf R B i) ≡ false → Unwritable R B i
   badKeyText : validText (keyText R B i) ≡ false → Unwritable R B i
-  -- an integer of more than 29 bits; a date over 2^53
+  -- an integer of more than 29 bits; a date that isn't finite
   longInteger : col R i colKind ≡ kindInteger → Outside 28 (col R i colNumber) → Unwritable R B i
-  lateDate : col R i colKind ≡ kindDate → 2 ^ 53 < col R i colNumber → Unwritable R B i
+  noDate : col R i colKind ≡ kindDate → refusedDate (col R i colNumber) ≡ true → Unwritable R B i
   -- an empty key of an associative or dynamic pair
   emptyKey : given R i ≡ fullKey → col R i colKeySize ≡ 0 → Unwritable R B i
   -- a given class that is empty, or that is `*`

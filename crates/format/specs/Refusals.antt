@@ -31,7 +31,7 @@ openObject = 5
 abbrev pub externalizable : ℕ
 externalizable = 6
 
--- a date that is NaN, infinite, or has its sign bit set
+-- a date that is NaN or infinite
 abbrev pub badDate : ℕ
 badDate = 7
 

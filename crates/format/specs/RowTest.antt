@@ -5,6 +5,7 @@ use mathlib.Core.Option.{Option, none, some}
 use Prim.Native.Nat.{ℕ, zero, suc, _+_, _*_, _-_, _^_}
 use lib.Dec.{leb, ltb, eqb}
 use lib.ListN.{length}
+use Rattle.wire.specs.Date.{refusedDate}
 use Rattle.rows.specs.Memory.{colKind, colKeyMark, colKeyBegin, colKeySize, colBodyBegin, colBodySize, colClassMark, colFlag, colNumber, colCount, rowsIn, col}
 use Rattle.rows.specs.Memory.{colCount2, colEnd}
 use Rattle.rows.specs.Kinds.{kindUndefined, kindBoolean, kindInteger, kindDouble, kindString, kindXmlDocument, kindDate, kindArray, kindObject, kindXml}
@@ -149,7 +150,7 @@ wellFormed R B i =
 -- 14: not so of a row that is well formed, by its number, its body or class, and its key
 unfoldable pub numberWritable : List ℕ → ℕ → ℕ → Bool
 numberWritable R i kind =
-    cond (eqb kind kindInteger) (signedFits 28 (col R i colNumber)) (cond (eqb kind kindDate) (leb (col R i colNumber) (2 ^ 53)) true)
+    cond (eqb kind kindInteger) (signedFits 28 (col R i colNumber)) (cond (eqb kind kindDate) (not (refusedDate (col R i colNumber))) true)
 
 unfoldable pub bodyWritable : List ℕ → List ℕ → ℕ → ℕ → Bool
 bodyWritable R B i kind =

@@ -1,24 +1,21 @@
 -- AMF 3 itself: trees, the tables of texts, objects and traits, reading one value with no limit, and writing one with no references.
 -- Written from Adobe's "AMF 3 Specification" (January 2013), whose sections stand in brackets. What is marked "scope" is document 01's: the refusals, what
--- a tree keeps of a date, a class or a flag, and that a reference may have any kind.
+-- a tree keeps of a class or a flag, and that a reference may have any kind.
 use mathlib.Core.Bool.{Bool, true, false, cond, not}
 use mathlib.Core.List.{List, [], _∷_, _++_}
 use mathlib.Core.Option.{Option, none, some}
 use Prim.Native.Nat.{ℕ, zero, suc, _+_, _*_, _-_, _/_, _%_, _^_}
 use lib.Dec.{ltb, eqb}
 use lib.IntN.{ℤ, pos}
-use lib.Ieee.{binary64, ofInt, toBits}
 use lib.ListN.{length, getD, set}
 use Rattle.wire.specs.declared.Size.{Size}
 use Rattle.wire.specs.declared.Size.the-variants.{Old, New}
 use Rattle.wire.specs.declared.Shape.{Shape}
 use Rattle.wire.specs.declared.Shape.the-variants.{Object, Known, External, Inline}
-use Rattle.wire.specs.declared.Date.{Date}
-use Rattle.wire.specs.declared.Date.the-variants.{Millis, Refused}
 use Rattle.wire.specs.U29.{u29}
 use Rattle.wire.specs.Sign.{integerOf, bitsAt}
 use Rattle.wire.specs.Big.{numberOf, bytesOf}
-use Rattle.wire.specs.Date.{dateOf}
+use Rattle.wire.specs.Date.{refusedDate}
 use Rattle.utf8.specs.Grammar.{validText}
 use Rattle.format.specs.Refusals as no
 use Rattle.format.specs.Bodies as k
@@ -32,9 +29,8 @@ pub data Plain : Type 0 where
   undefined null : Plain
   boolean : Bool → Plain
   integer : ℤ → Plain
-  double : ℕ → Plain  -- its 64 bits
+  double date : ℕ → Plain  -- the 64 bits
   string xmlDocument xml byteArray : List ℕ → Plain
-  date : ℕ → Plain  -- whole milliseconds (scope)
   intVector uintVector doubleVector : Bool → List ℕ → Plain
 
 -- a value [3.11, 3.12, 3.15, 3.16]
@@ -279,10 +275,9 @@ objectOf value f (Inline n dynamic) = do
   t ← newTraits n dynamic
   members value f i t
 
--- 7, or cut to whole milliseconds (scope)
-abbrev pub dated : ℕ → Date → Std Tree
-dated bits Refused = fail no.badDate bits
-dated bits (Millis n) = ret (plain (date n))
+-- a date is a double [3.10]; 7 where it isn't finite (scope)
+abbrev pub dated : ℕ → Std Tree
+dated bits = cond (refusedDate bits) (fail no.badDate bits) (ret (plain (date bits)))
 
 -- what marker b makes of a text, of raw bytes
 abbrev pub xmlOf : ℕ → List ℕ → Plain
@@ -299,7 +294,7 @@ newOf value f b k.xml n = do
   ret (plain (xmlOf b t))
 newOf value f b k.date n = do
   t ← bytes 8
-  dated (numberOf 0 t) (dateOf (numberOf 0 t))
+  dated (numberOf 0 t)
 newOf value f b k.array n = do
   xs ← pairs value f
   ts ← trees value n
@@ -435,7 +430,7 @@ encodePlain (integer v) = 0x04 ∷ u29 (bitsAt 28 v)
 encodePlain (double bits) = 0x05 ∷ bytesOf 8 bits
 encodePlain (string t) = 0x06 ∷ textBytes t
 encodePlain (xmlDocument t) = 0x07 ∷ textBytes t
-encodePlain (date ms) = 0x08 ∷ 0x01 ∷ bytesOf 8 (toBits binary64 (ofInt binary64 (pos ms)))
+encodePlain (date bits) = 0x08 ∷ 0x01 ∷ bytesOf 8 bits
 encodePlain (xml t) = 0x0B ∷ textBytes t
 encodePlain (byteArray t) = 0x0C ∷ textBytes t
 encodePlain (intVector fixed t) = 0x0D ∷ sizeBytes (length t / 4) ++ flagByte fixed ∷ t

@@ -1,11 +1,12 @@
 -- The trees that can be written: what refusal 14 asks of texts and numbers, and sizes and counts that a U29 can say.
 use mathlib.Core.Path.{_≡_}
-use mathlib.Core.Bool.{true}
+use mathlib.Core.Bool.{true, false}
 use mathlib.Core.List.{List, [], _∷_}
 use mathlib.Core.Option.{Option, none, some}
 use Prim.Native.Nat.{ℕ, _*_, _^_, _<_, _≤_}
 use lib.ListN.{length}
 use lib.Signed.{mag}
+use Rattle.wire.specs.Date.{refusedDate}
 use Rattle.utf8.specs.Grammar.{validText}
 use Rattle.format.specs.Standard.{Plain, undefined, null, boolean, integer, double, string, xmlDocument, xml, byteArray, date, intVector, uintVector}
 use Rattle.format.specs.Standard.{doubleVector, Tree, plain, array, object, objectVector, dictionary, Trees, nil, cons, Pairs, noPairs, pair}
@@ -46,7 +47,7 @@ WritablePlain (string t) = IsText t
 WritablePlain (xmlDocument t) = IsText t
 WritablePlain (xml t) = IsText t
 WritablePlain (byteArray t) = length t < 2 ^ 28
-WritablePlain (date ms) = ms ≤ 2 ^ 53
+WritablePlain (date bits) = (bits < 2 ^ 64) × (refusedDate bits ≡ false)
 WritablePlain (intVector fixed t) = IsRaw 4 t
 WritablePlain (uintVector fixed t) = IsRaw 4 t
 WritablePlain (doubleVector fixed t) = IsRaw 8 t

@@ -37,9 +37,6 @@ const INT29_TOP: usize = 0x1000_0000;
 
 const INT29_BOTTOM: usize = 0xffff_ffff_f000_0000;
 
-// The last date that is written: 2 to the 53.
-const DATE_LAST: usize = 0x20_0000_0000_0000;
-
 // The class of a vector that is written for none, one byte.
 const STAR: u8 = b'*';
 
@@ -489,7 +486,7 @@ fn number_writable(rows: &[usize], i: usize, kind: usize) -> bool
         return int29_fits(number);
     }
     if kind == kinds::DATE {
-        return number <= DATE_LAST;
+        return wire::is_date(number);
     }
     true
 }

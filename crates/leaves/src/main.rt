@@ -13,7 +13,7 @@
 use lines::Tally;
 use lines::Word;
 use wire::Bits;
-use wire::Date;
+use wire::Moment;
 use wire::Part;
 use wire::Put;
 use wire::Read;
@@ -234,25 +234,14 @@ fn column_is(line: &[u8], at: usize, v: i64) -> bool {
 
 // ---- dates
 
-// BITS MILLIS, or BITS refused
-fn date_millis_right(line: &[u8], from: usize) -> bool {
+// BITS COLUMN, or BITS none
+fn millis_right(line: &[u8], from: usize) -> bool {
     let Word::Of(bits, p) = lines::number(line, from) else {
         return false;
     };
-    match wire::date_millis(bits) {
-        Date::Millis(ms) => last_is(line, p, ms),
-        Date::Refused => rest_is(line, p, b"refused\n"),
-    }
-}
-
-// MILLIS BITS, or MILLIS outside
-fn date_bits_right(line: &[u8], from: usize) -> bool {
-    let Word::Of(ms, p) = lines::number(line, from) else {
-        return false;
-    };
-    match wire::date_bits(ms) {
-        Bits::Of(bits) => last_is(line, p, bits),
-        Bits::Outside => rest_is(line, p, b"outside\n"),
+    match wire::moment_of(bits) {
+        Moment::At(millis) => last_is(line, p, wire::column(millis)),
+        Moment::None => rest_is(line, p, b"none\n"),
     }
 }
 
@@ -314,8 +303,7 @@ enum Kind {
     Integer,
     IntegerBits,
     Column,
-    DateMillis,
-    DateBits,
+    Millis,
     Text,
 }
 
@@ -327,8 +315,7 @@ fn right(kind: Kind, line: &[u8], at: usize) -> bool {
         Kind::Integer => integer_right(line, at),
         Kind::IntegerBits => integer_bits_right(line, at),
         Kind::Column => column_right(line, at),
-        Kind::DateMillis => date_millis_right(line, at),
-        Kind::DateBits => date_bits_right(line, at),
+        Kind::Millis => millis_right(line, at),
         Kind::Text => text_right(line, at),
     }
 }
@@ -370,8 +357,7 @@ fn report_all(text: &[u8]) {
     report(text, Kind::Put(Form::Be32), b"put_be32 ");
     report(text, Kind::Read(Form::Be64), b"read_be64 ");
     report(text, Kind::Put(Form::Be64), b"put_be64 ");
-    report(text, Kind::DateMillis, b"date_millis ");
-    report(text, Kind::DateBits, b"date_bits ");
+    report(text, Kind::Millis, b"millis ");
     report(text, Kind::Text, b"text ");
 }
 

@@ -10,7 +10,7 @@ use lib.IntN.{ℤ, pos, negsuc}
 use Rattle.rows.specs.Kinds.{kindBoolean, kindInteger, kindDouble, kindDate, kindByteArray, kindDoubleVector, kindReference}
 use Rattle.format.specs.RowTest.{hasText}
 use Rattle.listing.specs.declared.Value.{Value}
-use Rattle.listing.specs.declared.Value.the-variants.{Nothing, Body, Plain, Signed, Bits}
+use Rattle.listing.specs.declared.Value.the-variants.{Nothing, Body, Plain, Signed, Bits, Millis}
 use Rattle.listing.specs.declared.Decimal.{Decimal}
 
 -- the bytes of a text of ASCII
@@ -39,13 +39,13 @@ kindNames =
 unfoldable pub knownKind : ℕ → ℕ
 knownKind kind = cond (leb kind kindReference) kind 0
 
--- whether a line has the number as a signed one, as its 64 bits in hex or in decimal, or the body in hex
+-- whether a line has the number as a signed one, as its 64 bits in hex, in decimal or as a date's milliseconds, or the body in hex
 unfoldable pub valueOf : ℕ → Value
 valueOf kind =
     cond (eqb kind kindInteger) Signed
     (cond (eqb kind kindDouble) Bits
     (cond (eqb kind kindBoolean) Plain
-    (cond (eqb kind kindDate) Plain
+    (cond (eqb kind kindDate) Millis
     (cond (eqb kind kindReference) Plain
     (cond (hasText kind) Body
     (cond (ltb kind kindByteArray) Nothing

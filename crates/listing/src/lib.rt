@@ -4,6 +4,7 @@
 use format::refusals;
 use libc::STDOUT_FILENO;
 use rows::kinds;
+use wire::Moment;
 ghost use mathlib.Core.Path.{_≡_};
 ghost use Prim.Native.Nat.{_+_, _*_, _≤_, _<_, min};
 ghost use lib.ListN.{length};
@@ -16,16 +17,17 @@ ghost use Rattle.listing.specs.Hex.{hexOf};
 // Bytes of a name of a kind, with the blanks behind it.
 const NAME_SIZE: usize = 16;
 
-// The refusals of a reading that tell a value.
 // ---- what a line has of a row, by its kind
 
-// What a line has of a row's body or number: nothing, the body in hex, or the number in decimal, as a signed one, or as its 64 bits in hex.
+// What a line has of a row's body or number: nothing, the body in hex, or the number in decimal, as a signed one, as its 64 bits in hex, or as a date's
+// milliseconds.
 enum Value {
     Nothing,
     Body,
     Plain,
     Signed,
     Bits,
+    Millis,
 }
 
 // The names of the kinds, in the order of their numbers, each with blanks behind it.
@@ -76,7 +78,7 @@ fn value_of(kind: usize) -> Value
         return Value::Plain;
     }
     if kind == kinds::DATE {
-        return Value::Plain;
+        return Value::Millis;
     }
     if kind == kinds::REFERENCE {
         return Value::Plain;
@@ -163,6 +165,14 @@ fn print_signed(x: usize) {
         print(b"-");
     }
     print_number(d.size);
+}
+
+// The milliseconds of a date's bits, `-` where there are none.
+fn print_millis(bits: usize) {
+    match wire::moment_of(bits) {
+        Moment::None => print(b"-"),
+        Moment::At(millis) => print_signed(wire::column(millis)),
+    }
 }
 
 // A word without the blanks behind it.
@@ -276,6 +286,7 @@ fn print_value(kind: usize, number: usize, body: &[u8]) {
         Value::Plain => print_number(number),
         Value::Signed => print_signed(number),
         Value::Bits => print_bits(number),
+        Value::Millis => print_millis(number),
     }
 }
 

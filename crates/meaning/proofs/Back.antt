@@ -1,26 +1,25 @@
 -- A reader of the standard reads these bytes as this, whatever the tables, the place and what follows; the rule for two readers, and the leaves.
 use mathlib.Core.Path.{_≡_, refl, ap, _∙_}
-use mathlib.Core.Bool.{Bool, true, false}
+use mathlib.Core.Bool.{Bool, true, false, cond}
 use mathlib.Core.List.{List, [], _∷_, _++_, append-assoc, append-nil}
 use Prim.Native.Nat.{ℕ, suc, _+_, _*_, _^_, _/_, _<_}
 use native.Mathlib.Omega.{arith}
 use native.Mathlib.Nat.{mod-eq-of-lt}
 use lib.Dec.{ltb, lit<}
-use lib.IntN.{pos}
-use lib.Ieee.{binary64, ofInt, toBits}
 use lib.ListN.{length, length-append}
 use Rattle.wire.specs.U29.{moreOf, groups, u29}
 use Rattle.wire.specs.Sign.{bitsAt}
 use Rattle.wire.specs.Big.{numberOf, bytesOf}
+use Rattle.wire.specs.Date.{refusedDate}
 use Rattle.wire.proofs.Sign.{bits-of, bits-lt, integer-bits}
 use Rattle.wire.proofs.Big.{number-bytes, bytes-length}
-use Rattle.wire.proofs.Dates.{date-round, date-bits-lt}
 use Rattle.utf8.specs.Grammar.{follow, validText}
 use Rattle.format.specs.Decide as k
 use Rattle.format.specs.Decide.{Body, Width, widthOf}
-use Rattle.format.specs.Reading.{ok, bind, _>>=_, ret}
+use Rattle.format.specs.Refusals as no
+use Rattle.format.specs.Reading.{ok, bad, bind, _>>=_, ret}
 use Rattle.format.specs.Standard.{Plain, undefined, null, boolean, integer, double, string, xmlDocument, xml, byteArray, date}
-use Rattle.format.specs.Standard.{intVector, uintVector, doubleVector, Tree, plain, Tables, Std, change, byte, bytes, word, chars}
+use Rattle.format.specs.Standard.{intVector, uintVector, doubleVector, Tree, plain, Tables, Std, fail, change, byte, bytes, word, chars}
 use Rattle.format.specs.Standard.{keptText, follows}
 use Rattle.format.specs.Standard.{textOf, text}
 use Rattle.format.specs.Standard.{opened, shut, vectorOf, newOf, sizedOf, marked, value, sizeBytes, textBytes, flagByte, encodePlain}
@@ -123,6 +122,21 @@ reads-eight n = rw (bytes-length 8 n) at (reads-bytes (bytesOf 8 n))
 number-eight : (n : ℕ) → n < 2 ^ 64 → numberOf 0 (bytesOf 8 n) ≡ n
 number-eight n h = number-bytes 8 n ∙ mod-eq-of-lt h
 
+-- a date wherever it stands: eight bytes as one number, or 7 that tells it, at the last of them
+module _ (v : Std Tree) (f b n b₀ b₁ b₂ b₃ b₄ b₅ b₆ b₇ : ℕ) where
+  abbrev octets : List ℕ
+  octets = b₀ ∷ b₁ ∷ b₂ ∷ b₃ ∷ b₄ ∷ b₅ ∷ b₆ ∷ b₇ ∷ []
+
+  dated-by : (t : Bool) (s : Tables) (p q : ℕ) (rest : List ℕ) → p ≡ q → cond t (fail no.badDate (numberOf 0 octets)) (ret (plain (date (numberOf 0 octets)))) s p rest
+      ≡ cond t (bad no.badDate (numberOf 0 octets) q s) (ok (plain (date (numberOf 0 octets))) s q rest)
+  dated-by true s p q rest e = rw e
+  dated-by false s p q rest e = rw e
+
+  pub date-new : (s : Tables) (p : ℕ) (rest : List ℕ) → newOf v f b k.date n s p (octets ++ rest)
+      ≡ cond (refusedDate (numberOf 0 octets)) (bad no.badDate (numberOf 0 octets) (p + 8) s) (ok (plain (date (numberOf 0 octets))) s (p + 8) rest)
+  unfolding newOf bytes byte
+  date-new s p rest = dated-by (refusedDate (numberOf 0 octets)) s _ (p + 8) rest (omega arith)
+
 pub reads-plain : (p : Plain) → WritablePlain p → (f d : ℕ) → Reads (value f (suc d)) (encodePlain p) (plain p)
 unfolding encodePlain follows marked newOf u29 moreOf groups
 reads-plain undefined h f d = reads-marked f d 0x00 refl reads-ret
@@ -136,11 +150,9 @@ reads-plain (double bits) h f d = reads-marked f d 0x05 refl (reads-last _ (read
 reads-plain (string t) h f d = reads-marked f d 0x06 refl (reads-last _ (reads-text t h) reads-ret)
 reads-plain (xmlDocument t) h f d =
     reads-marked f d 0x07 refl (reads-sized (value f d) f 0x07 k.xml (length t) (h .short) (reads-last _ (reads-chars t (h .valid)) reads-ret))
-reads-plain (date ms) h f d =
-    let bits : ℕ = toBits binary64 (ofInt binary64 (pos ms)) in
+reads-plain (date bits) h f d =
     reads-marked f d 0x08 refl
-    (reads-sized (value f d) f 0x08 k.date 0 (lit< tt)
-    (reads-last _ (reads-eight bits) (rw (number-eight bits (date-bits-lt ms h), date-round ms h) reads-ret)))
+    (reads-sized (value f d) f 0x08 k.date 0 (lit< tt) (reads-last _ (reads-eight bits) (rw (number-eight bits (h .0), h .1) reads-ret)))
 reads-plain (xml t) h f d =
     reads-marked f d 0x0B refl (reads-sized (value f d) f 0x0B k.xml (length t) (h .short) (reads-last _ (reads-chars t (h .valid)) reads-ret))
 reads-plain (byteArray t) h f d =

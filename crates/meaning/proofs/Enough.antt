@@ -14,12 +14,11 @@ use Rattle.rows.specs.declared.Key.{Key}
 use Rattle.rows.specs.declared.Trait.{Trait}
 use Rattle.rows.specs.Memory.{Memory, memory, rowWidth, spanWidth, traitWidth, colEnd, rowUsed, put}
 use Rattle.rows.specs.Memory.{colNumber, colBodyBegin, colBodySize, colClassMark, colFlag, colCount, noSpan, keyOf, spanAt, spanUsed}
-use Rattle.wire.specs.declared.Date.{Date}
-use Rattle.wire.specs.declared.Date.the-variants.{Millis, Refused}
-use Rattle.wire.specs.Date.{dateOf}
+use Rattle.wire.specs.Date.{refusedDate}
 use Rattle.wire.specs.Sign.{integerOf, columnOf}
 use Rattle.format.specs.Decide.{Out, give, refuse, lost, lift, looking, onRows, onStore, onStrings, onObjects, onTraits, onNames, inRow}
-use Rattle.format.specs.Decide.{Width, widthOf, marker, newRow, closed, numbered, integerEnd, dated, dateEnd, bodied, classed, objectClass}
+use Rattle.format.specs.Refusals.{badDate}
+use Rattle.format.specs.Decide.{Width, widthOf, refuse, marker, newRow, closed, numbered, integerEnd, dateEnd, bodied, classed, objectClass}
 use Rattle.format.specs.Decide.{vectorClass, flagged, counted, keyEnd, grown, classOf, rowsTo, storeTo, stringsTo, objectsTo, traitsTo, namesTo}
 use Rattle.format.specs.Decide.{reserved, stored, judged, textEnd, entered, named, traitEnd, traitHolds, sealedKey, starred}
 use Rattle.format.specs.Reading.{by}
@@ -60,17 +59,14 @@ module _ (row : ℕ) where
 
   pub goes-date : (bits : ℕ) → Goes Any (by (onRows (dateEnd row bits))) [] nothing
   unfolding dateEnd
-  goes-date bits = on-rows (dateEnd row bits) (λ m c. used m c (rowUsed (m .rows) c row) (dateOf bits)) (λ R c. search (costing, date-costs (dateOf bits) R c))
+  goes-date bits = on-rows (dateEnd row bits) (λ m c. used m c (rowUsed (m .rows) c row) (refusedDate bits)) (λ R c. search (costing, numbered-costs bits R c))
     where
-      date-costs : (d : Date) (R : List ℕ) (c : Cursor) → Costs Any nothing c (dated row bits d R c)
-      date-costs Refused R c = costless
-      date-costs (Millis n) R c = numbered-costs n R c
-
-      used : (m : Memory) (c : Cursor) (t : Bool) (d : Date) → Decides Any nothing m c
-          (lift (λ R. memory R (m .store) (m .strings) (m .objects) (m .traits) (m .names)) (cond t (dated row bits d (m .rows) c) lost))
-      used m c true Refused = refl
-      used m c true (Millis n) = numbered-row n m c
-      used m c false d = refl
+      used : (m : Memory) (c : Cursor) (t u : Bool) → Decides Any nothing m c
+          (lift (λ R. memory R (m .store) (m .strings) (m .objects) (m .traits) (m .names))
+          (cond t (cond u (refuse badDate bits c) (numbered row bits (m .rows) c)) lost))
+      used m c true true = refl
+      used m c true false = numbered-row bits m c
+      used m c false u = refl
 
   pub goes-bodied : (s : Span) → Goes Any (by (onRows (bodied row s))) [] nothing
   unfolding bodied

@@ -1,4 +1,4 @@
--- Every table that an unaltered reading finished passes 13, and passes 14 unless it has a date over 2 ^ 53.
+-- Every table that an unaltered reading finished passes 13 and 14.
 use mathlib.Core.Path.{_≡_, refl, sym, ap, _∙_}
 use mathlib.Core.Bool.{true}
 use mathlib.Core.List.{List}
@@ -8,16 +8,15 @@ use lib.ListN.{length, take}
 use lib.Seq.{length-take-le, getD-take}
 use Rattle.rows.specs.declared.Cursor.{Cursor}
 use Rattle.rows.specs.Memory.{Memory, zeroed, fresh, faultOf, openLimit, noKey, colKind, colNumber, rowsIn, col}
-use Rattle.rows.specs.Kinds.{kindDate}
 use Rattle.format.specs.Reading.{Result, Ended, finished, ended, unlessFault, value, reading}
 use Rattle.format.specs.Step.{over, run, end, begin}
-use Rattle.format.specs.RowTest.{wellFormed, fine, tested, keyless}
+use Rattle.format.specs.RowTest.{wellFormed, writable, fine, tested, keyless}
 use Rattle.format.proofs.Tests.{clash}
 use Rattle.format.proofs.Lists.{Kept}
 use Rattle.meaning.proofs.Ground.{land, Ext, ext-kept, landOf}
 use Rattle.format.proofs.Feeding.{feeding}
 use Rattle.meaning.proofs.Lands.{bare, sound-ext}
-use Rattle.meaning.proofs.RowTests.{Passes, Table, Writes, well-formed, all-write, passing, fine-without}
+use Rattle.meaning.proofs.RowTests.{Table, well-formed, can-be-written, passing}
 use Rattle.meaning.proofs.Stages.{Ok, Val}
 use Rattle.meaning.proofs.Posts.{Post, stops, gets}
 use Rattle.meaning.proofs.ValueRows.{value-reads}
@@ -97,24 +96,19 @@ module _ (m : Memory) (bs : List ℕ) (c : Cursor) (m′ : Memory) (e : reading 
   pub finished-well-formed : (i : ℕ) → i < rowsIn (usedRows c m′) → wellFormed (usedRows c m′) (m′ .store) i ≡ true
   finished-well-formed = well-formed whole-table
 
-  -- every row can be written, but for late dates
-  pub finished-writes : (i : ℕ) → i < rowsIn (usedRows c m′) → Writes (usedRows c m′) (m′ .store) i
-  finished-writes = all-write whole-table
+  -- every row can be written
+  pub finished-writes : (i : ℕ) → i < rowsIn (usedRows c m′) → writable (usedRows c m′) (m′ .store) i ≡ true
+  finished-writes = can-be-written whole-table
 
-  -- so that the test passes, or finds such a date
-  pub finished-passes : Passes (usedRows c m′) (tested (usedRows c m′) (m′ .store))
+  -- so that the test passes
+  pub finished-passes : tested (usedRows c m′) (m′ .store) ≡ fine
   finished-passes = passing whole-table
 
-  pub finished-passes-used : Passes (usedRows c m′) (tested (usedRows c m′) (take (c .store) (m′ .store)))
+  pub finished-passes-used : tested (usedRows c m′) (take (c .store) (m′ .store)) ≡ fine
   finished-passes-used = passing used-table
-
-  -- without such a date it passes
-  pub finished-fine : ((i : ℕ) → col (usedRows c m′) i colKind ≡ kindDate → col (usedRows c m′) i colNumber ≤ 2 ^ 53)
-      → tested (usedRows c m′) (m′ .store) ≡ fine
-  finished-fine h = fine-without finished-passes h
 
 -- fed in pieces it is the same table
 pub fed-passes : (m : Memory) (bs : List ℕ) (c : Cursor) (m′ : Memory) → run (begin m) bs ≡ over (finished c m′)
-    → Passes (usedRows c m′) (tested (usedRows c m′) (m′ .store))
+    → tested (usedRows c m′) (m′ .store) ≡ fine
 unfolding end
 fed-passes m bs c m′ e = finished-passes m bs c m′ (sym (feeding m bs) ∙ ap end e)

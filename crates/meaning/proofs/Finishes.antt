@@ -6,8 +6,6 @@ use mathlib.Core.Option.{Option, none, some}
 use Prim.Native.Nat.{ℕ, zero, suc, _+_, _*_, _^_, _/_, _<_, _≤_}
 use native.Mathlib.Omega.{arith}
 use lib.Dec.{lit<}
-use lib.IntN.{pos}
-use lib.Ieee.{binary64, ofInt, toBits}
 use lib.ListN.{length, length-replicate}
 use Rattle.rows.specs.declared.Span.{Span}
 use Rattle.rows.specs.declared.Key.{Key}
@@ -120,7 +118,7 @@ plain-goes (string t) h left key =
     (λ x p. goes-free _ (goes-bodied row x) (λ a q. goes-closed row)))
 plain-goes (xmlDocument t) h left key =
     object-goes key left 0x07 k.xml (length t) (room 0 (length t) 0 0 0 0) (omega arith) (h .short) refl (λ row. goes-xml (value left) row t)
-plain-goes (date ms) h left key = date-goes (toBits binary64 (ofInt binary64 (pos ms))) left key
+plain-goes (date bits) h left key = date-goes bits left key
 plain-goes (xml t) h left key =
     object-goes key left 0x0B k.xml (length t) (room 0 (length t) 0 0 0 0) (omega arith) (h .short) refl (λ row. goes-xml (value left) row t)
 plain-goes (byteArray t) h left key =

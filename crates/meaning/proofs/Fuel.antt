@@ -11,16 +11,15 @@ use Rattle.wire.specs.declared.Size.{Size}
 use Rattle.wire.specs.declared.Size.the-variants.{Old, New}
 use Rattle.wire.specs.declared.Shape.{Shape}
 use Rattle.wire.specs.declared.Shape.the-variants.{Object, Known, External, Inline}
-use Rattle.wire.specs.declared.Date.{Date}
-use Rattle.wire.specs.declared.Date.the-variants.{Millis, Refused}
 use Rattle.format.specs.Standard.{keptText, sizeSays, objectSays, follows}
 use Rattle.wire.specs.Big.{numberOf}
-use Rattle.wire.specs.Date.{dateOf}
+use Rattle.wire.specs.Date.{refusedDate}
 use Rattle.utf8.specs.Grammar.{validText}
 use Rattle.format.specs.Decide as k
 use Rattle.format.specs.Decide.{Kind, Body, widthOf}
 use Rattle.format.specs.Reading.{ResultOf, ok, bad, bind, _>>=_, ret}
-use Rattle.format.specs.Standard.{Tree, Pairs, Traits, Tables, noTables, Std, fail, lookup, change, byte, bytes, word, chars}
+use Rattle.format.specs.Refusals as no
+use Rattle.format.specs.Standard.{Tree, plain, date, Pairs, Traits, Tables, noTables, Std, fail, lookup, change, byte, bytes, word, chars}
 use Rattle.format.specs.Standard.{textOf, text, opened, shut, finishedObject, objectAt, names, newTraits, trees, sealed, pairsFrom, pairs, dynamics}
 use Rattle.format.specs.Standard.{entries, members, objectOf, dated, newOf, sizedOf, marked, value, standard}
 
@@ -89,9 +88,12 @@ takes-lookup f d i =
     by s p bs true = omega arith
     by s p bs false = tt
 
-pub dated-takes : (bits : ℕ) (z : Date) → Takes 0 (dated bits z)
-dated-takes bits Refused = takes-fail
-dated-takes bits (Millis n) = takes-ret
+pub dated-takes : (bits : ℕ) → Takes 0 (dated bits)
+dated-takes bits = by (refusedDate bits)
+  where
+    by : (t : Bool) → Takes 0 (cond t (fail no.badDate bits) (ret (plain (date bits))))
+    by true = takes-fail
+    by false = takes-ret
 
 pub byte-takes : Takes 1 byte
 byte-takes = record { leaves = one; level = place }
@@ -203,7 +205,7 @@ module _ {v : Std Tree} (h : Takes 0 v) where
   pub new-takes : (f b : ℕ) (body : Body) (n : ℕ) → Takes 0 (newOf v f b body n)
   unfolding newOf
   new-takes f b k.xml n = takes-bind (chars-takes n) (λ t. takes-ret)
-  new-takes f b k.date n = takes-bind (bytes-takes 8) (λ t. dated-takes (numberOf 0 t) (dateOf (numberOf 0 t)))
+  new-takes f b k.date n = takes-bind (bytes-takes 8) (λ t. dated-takes (numberOf 0 t))
   new-takes f b k.array n = takes-bind (pairs-take f) (λ xs. takes-bind (trees-take n) (λ ts. takes-ret))
   new-takes f b k.bytes n = takes-bind (bytes-takes n) (λ t. takes-ret)
   new-takes f b (k.raw w) n = takes-less (takes-bind byte-takes (λ flag. takes-bind (bytes-takes (n * widthOf w)) (λ t. takes-ret)))

@@ -10,6 +10,7 @@ use Rattle.rows.specs.declared.Span.{Span}
 use Rattle.rows.specs.declared.Key.{Key}
 use Rattle.rows.specs.Memory.{span, colKind, colKeyMark, colKeySize, colEnd}
 use Rattle.utf8.specs.Grammar.{validText}
+use Rattle.wire.specs.Date.{refusedDate}
 use Rattle.format.specs.Standard.{isStar}
 use Rattle.format.specs.Unfold.{part}
 use Rattle.format.specs.RowTest.{isObject, signedFits, Given, keyless, anyKey, fullKey, markOf, isFilled}
@@ -77,7 +78,7 @@ pub data Number : ℕ → ℕ → Type 0 where
   boolean : {v : ℕ} → v ≤ 1 → Number 3 v
   integer : {v : ℕ} → signedFits 28 v ≡ true → Number 4 v
   double : {v : ℕ} → Number 5 v
-  date : {v : ℕ} → Number 8 v
+  date : {v : ℕ} → refusedDate v ≡ false → Number 8 v
 
 pub data Texts : ℕ → Type 0 where
   string : Texts 6

@@ -18,7 +18,7 @@ pub mod Plains
 pub mod Holders
 pub mod Values
 pub mod Meaning
--- Every table that a reading finished passes 13, and 14 unless a date is too large.
+-- Every table that a reading finished passes 13 and 14.
 pub mod Lands
 pub mod RowTests
 pub mod Stages

@@ -12,20 +12,19 @@ use Rattle.rows.specs.declared.Cursor.{Cursor}
 use Rattle.rows.specs.declared.Span.{Span}
 use Rattle.rows.specs.declared.Key.{Key}
 use Rattle.rows.specs.Memory.{Memory, span, noSpan, put, colEnd}
-use Rattle.wire.specs.declared.Date.{Date}
-use Rattle.wire.specs.declared.Date.the-variants.{Millis, Refused}
 use Rattle.wire.specs.Sign.{integerOf, columnOf, ofColumn}
-use Rattle.wire.specs.Date.{dateOf}
+use Rattle.wire.specs.Date.{refusedDate}
 use Rattle.wire.proofs.Octets.{Bytes}
 use Rattle.wire.proofs.Sign.{of-column, has-bits, bits-integer}
 use Rattle.utf8.specs.Grammar.{validText, follow}
 use Rattle.utf8.proofs.Fold.{fold-valid}
-use Rattle.format.specs.Decide.{storeTo, onRows, looking, closed, numbered, integerEnd, dateEnd, dated, bodied, judged, flagged, fixed, grown}
+use Rattle.format.specs.Decide.{storeTo, onRows, looking, closed, numbered, integerEnd, dateEnd, bodied, judged, flagged, fixed, grown}
 use Rattle.format.specs.Decide.{reserved, Width, widthOf}
 use Rattle.format.specs.Decide as dec
 use Rattle.format.specs.Reading.{ResultOf, ok, bind, ret, Reader, Values, decided, by, taken}
 use Rattle.format.specs.Reading as our
 use Rattle.format.specs.Unfold.{part}
+use Rattle.format.proofs.Tests.{on-bool}
 use Rattle.format.specs.Standard as std
 use Rattle.format.specs.Standard.{Tables, Std, Tree, Plain, plain, integer, double, string, byteArray, date, xmlOf, vectorOf}
 use Rattle.format.proofs.Memories.{withRows}
@@ -71,14 +70,10 @@ column-back w = let h = (has-bits (integerOf w) _ (bits-integer w)) .0 in of-col
 dated-alike : {whole : List ℕ} {m₀ : Memory} {c₀ : Cursor} {k : Key} {m : Memory} {c : Cursor} {s : Tables} (w : ℕ) (bs : List ℕ)
     → Stage true m₀ c₀ (opening 8 k) (c .store) m c s → c₀ .at < c .at → Left whole (c .at) bs
     → Agree whole (Val m₀ c₀ k) (decided (onRows (dateEnd (c₀ .rows) w) m c) m bs)
-    (bind (std.dated w (dateOf w) s (c .at) bs) (std.shut (c₀ .objects)))
+    (bind (std.dated w s (c .at) bs) (std.shut (c₀ .objects)))
 unfolding dateEnd std.shut
-dated-alike {whole} {m₀} {c₀} {k} {m} {c} {s} w bs x a l = rw (stage-used x) (by-date (dateOf w))
-  where
-    by-date : (d : Date) → Agree whole (Val m₀ c₀ k) (decided (onRows (dated (c₀ .rows) w d) m c) m bs)
-        (bind (std.dated w d s (c .at) bs) (std.shut (c₀ .objects)))
-    by-date Refused = both (lit≤ tt) (lit≤ tt)
-    by-date (Millis n) = number-object (date n) n bs x a refl l
+dated-alike w bs x a l =
+    rw (stage-used x) (on-bool (refusedDate w) (λ e. rw e (both (lit≤ tt) (lit≤ tt))) (λ e. rw e (number-object (date w) w bs x a refl l)))
 
 -- ---- numbers
 
@@ -100,7 +95,7 @@ module _ (whole : List ℕ) (octets : Bytes whole) (value : Values) (tree : Std 
 
   pub date-alike : (n : ℕ) → Stage true m₀ c₀ (opening 8 k) (c .store) m c s → NewAlike whole value tree f k m₀ c₀ 8 dec.date n m c s bs
   unfolding our.newOf std.newOf
-  date-alike n x = rw flat (number-then whole octets m s 7 0 c bs _ (λ v m c bs. bind (std.dated v (dateOf v) m c bs) (std.shut (c₀ .objects)))
+  date-alike n x = rw flat (number-then whole octets m s 7 0 c bs _ (λ v m c bs. bind (std.dated v m c bs) (std.shut (c₀ .objects)))
       (omega arith) (lit< tt) l (λ w n bs l h i.
       dated-alike w bs (stage-at x n (omega arith) i) (omega arith) l))
 

@@ -16,13 +16,11 @@ use Rattle.rows.specs.Memory.{Memory, messageLimit, span, keyOf, spanAt, spanUs
 use Rattle.rows.specs.Memory.{colClassMark, colFlag, colNumber, colCount, colEnd, col}
 use Rattle.wire.specs.declared.Part.{Part}
 use Rattle.wire.specs.declared.Part.the-variants.{More, Whole, Astray}
-use Rattle.wire.specs.declared.Date.{Date}
-use Rattle.wire.specs.declared.Date.the-variants.{Millis, Refused}
 use Rattle.wire.specs.U29.{partOf}
 use Rattle.wire.specs.Big.{digitOf}
-use Rattle.wire.specs.Date.{dateOf}
+use Rattle.wire.specs.Date.{refusedDate}
 use Rattle.format.specs.Decide.{Out, stop, give, lift, rowsTo, storeTo, stringsTo, objectsTo, traitsTo, namesTo, traitAt, traitHolds, newRow, marker}
-use Rattle.format.specs.Decide.{closed, numbered, dated, dateEnd, bodied, classed, flagged, counted, keyEnd, grown, Width, widthOf, oldText, reserved, stored}
+use Rattle.format.specs.Decide.{closed, numbered, dateEnd, bodied, classed, flagged, counted, keyEnd, grown, Width, widthOf, oldText, reserved, stored}
 use Rattle.format.specs.Decide.{judged, textEnd, entered, referred, oldTrait, named, traitEnd, sealedKey, starred}
 use Rattle.format.specs.Reading.{ok, bad, bind, Result, Reader, decided, byte, u29, number, onPart}
 use Rattle.format.proofs.Tests.{on-bool}
@@ -77,13 +75,9 @@ module _ {Q : Unit {0} → List ℕ → Cursor → Type 0} (row : ℕ) (R : List
   unfolding numbered
   wp-numbered n h = only (rowUsed R c row) (λ e. gives h) halts
 
-  pub wp-date : (bits : ℕ) → ((n : ℕ) → Q tt (put (put R row colNumber n) row colEnd (c .rows)) c) → Gives Q (dateEnd row bits R c)
+  pub wp-date : (bits : ℕ) → (refusedDate bits ≡ false → Q tt (put (put R row colNumber bits) row colEnd (c .rows)) c) → Gives Q (dateEnd row bits R c)
   unfolding dateEnd
-  wp-date bits h = only (rowUsed R c row) (λ e. of (dateOf bits)) halts
-    where
-      of : (d : Date) → Gives Q (dated row bits d R c)
-      of Refused = halts
-      of (Millis n) = wp-numbered n (h n)
+  wp-date bits h = only (rowUsed R c row) (λ e. unless (refusedDate bits) halts (λ f. wp-numbered bits (h f))) halts
 
   pub wp-bodied : (s : Span) → Q tt (put (put R row colBodyBegin (s .begin)) row colBodySize (s .size)) c → Gives Q (bodied row s R c)
   unfolding bodied

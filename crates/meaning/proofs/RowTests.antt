@@ -1,4 +1,4 @@
--- Rows that are all sound, below a root that has no key and ends with them, pass the row test, but for dates over 2 ^ 53.
+-- Rows that are all sound, below a root that has no key and ends with them, pass the row test.
 use mathlib.Core.Path.{_≡_, refl, sym, ap, _∙_}
 use mathlib.Core.Bool.{Bool, true, false, cond, not, _||_}
 use mathlib.Core.List.{List, _∷_}
@@ -24,7 +24,6 @@ use Rattle.meaning.proofs.Lands.{null, boolean, integer, double, date, 
 use Rattle.meaning.proofs.Lands.{bytes, raw, array, object, vector, dictionary, reference, Sound, run-up}
 use Rattle.rows.specs.Memory.{rowWidth}
 use Rattle.rows.specs.Memory.{colBodySize, colCount, colCount2}
-pub use Rattle.format.specs.Claims.{Passes, passes, late}
 
 -- ---- a row by itself
 
@@ -82,7 +81,7 @@ module _ (L : Land) (room : L .full ≤ length (L .store)) where
   own m b z (number (boolean h) e) = record { low = refl; high = refl; columns = rw none-fits; body = refl }
   own m b z (number (integer h) e) = record { low = refl; high = refl; columns = rw none-fits; body = refl }
   own m b z (number double e) = record { low = refl; high = refl; columns = rw none-fits; body = refl }
-  own m b z (number date e) = record { low = refl; high = refl; columns = rw none-fits; body = refl }
+  own m b z (number (date f) e) = record { low = refl; high = refl; columns = rw none-fits; body = refl }
   own m b z (text string v e) = record { low = refl; high = refl; columns = rw (span-fits _ _ (v .within)); body = v .text }
   own m b z (text xmlDocument v e) = record { low = refl; high = refl; columns = rw (span-fits _ _ (v .within)); body = v .text }
   own m b z (text xml v e) = record { low = refl; high = refl; columns = rw (span-fits _ _ (v .within)); body = v .text }
@@ -175,11 +174,6 @@ module _ (R B : List ℕ) (u : ℕ) where
 
   -- ---- a sound row
 
-  -- its number can be written, or it is a late date
-  data Timely (i k : ℕ) : Type 0 where
-    timely : numberWritable R i k ≡ true → Timely i k
-    untimely : k ≡ kindDate → 2 ^ 53 < col R i colNumber → Timely i k
-
   module _ (i m b z : ℕ) where
     value-fits : {k : ℕ} {cs : List ℕ} → Form L i k cs → ((j : ℕ) → j < rowWidth → col R i j ≡ getD (k ∷ m ∷ b ∷ z ∷ cs) j 0) → valueFits R i k ≡ true
     unfolding valueFits
@@ -188,7 +182,7 @@ module _ (R B : List ℕ) (u : ℕ) where
     value-fits (number (boolean l) e) is = rw (is colNumber (omega arith)) (le-leb _ 1 l)
     value-fits (number (integer l) e) is = rw (is colNumber (omega arith)) (signed-more _ l)
     value-fits (number double e) is = refl
-    value-fits (number date e) is = refl
+    value-fits (number (date f) e) is = refl
     value-fits (text string v e) is = refl
     value-fits (text xmlDocument v e) is = refl
     value-fits (text xml v e) is = refl
@@ -203,27 +197,26 @@ module _ (R B : List ℕ) (u : ℕ) where
     value-fits (reference {t = t} l d a o e) is =
         rw (is colNumber (omega arith), col-lent R t colEnd (done-in t d), col-lent R t colKind (done-in t d), lt-ltb t i l, le-leb (at L t colEnd) i a, o)
 
-    number-fits : {k : ℕ} {cs : List ℕ} → Form L i k cs → ((j : ℕ) → j < rowWidth → col R i j ≡ getD (k ∷ m ∷ b ∷ z ∷ cs) j 0) → Timely i k
+    number-fits : {k : ℕ} {cs : List ℕ} → Form L i k cs → ((j : ℕ) → j < rowWidth → col R i j ≡ getD (k ∷ m ∷ b ∷ z ∷ cs) j 0) → numberWritable R i k ≡ true
     unfolding numberWritable
-    number-fits (number undefined e) is = timely refl
-    number-fits (number null e) is = timely refl
-    number-fits (number (boolean l) e) is = timely refl
-    number-fits (number (integer l) e) is = timely (rw (is colNumber (omega arith)) l)
-    number-fits (number double e) is = timely refl
-    number-fits (number date e) is = elim (decLt (2 ^ 53) (col R i colNumber))
-        [ yes l ↦ untimely refl l | no l ↦ timely (le-leb (col R i colNumber) (2 ^ 53) (omega arith)) ]
-    number-fits (text string v e) is = timely refl
-    number-fits (text xmlDocument v e) is = timely refl
-    number-fits (text xml v e) is = timely refl
-    number-fits (bytes v e) is = timely refl
-    number-fits (raw ints v w f e) is = timely refl
-    number-fits (raw uints v w f e) is = timely refl
-    number-fits (raw doubles v w f e) is = timely refl
-    number-fits (array p q) is = timely refl
-    number-fits (object c p q) is = timely refl
-    number-fits (vector c f p) is = timely refl
-    number-fits (dictionary f p) is = timely refl
-    number-fits (reference l d a o e) is = timely refl
+    number-fits (number undefined e) is = refl
+    number-fits (number null e) is = refl
+    number-fits (number (boolean l) e) is = refl
+    number-fits (number (integer l) e) is = rw (is colNumber (omega arith)) l
+    number-fits (number double e) is = refl
+    number-fits (number (date f) e) is = rw (is colNumber (omega arith)) (ap not f)
+    number-fits (text string v e) is = refl
+    number-fits (text xmlDocument v e) is = refl
+    number-fits (text xml v e) is = refl
+    number-fits (bytes v e) is = refl
+    number-fits (raw ints v w f e) is = refl
+    number-fits (raw uints v w f e) is = refl
+    number-fits (raw doubles v w f e) is = refl
+    number-fits (array p q) is = refl
+    number-fits (object c p q) is = refl
+    number-fits (vector c f p) is = refl
+    number-fits (dictionary f p) is = refl
+    number-fits (reference l d a o e) is = refl
 
   -- the children of a row, as the test walks them
   pub record Kids (i : ℕ) : Type 0 where
@@ -242,7 +235,7 @@ module _ (R B : List ℕ) (u : ℕ) where
     kids-in (number (boolean l) e) is = no-kids (is colEnd (omega arith) ∙ e) (rw (is colKind (omega arith)))
     kids-in (number (integer l) e) is = no-kids (is colEnd (omega arith) ∙ e) (rw (is colKind (omega arith)))
     kids-in (number double e) is = no-kids (is colEnd (omega arith) ∙ e) (rw (is colKind (omega arith)))
-    kids-in (number date e) is = no-kids (is colEnd (omega arith) ∙ e) (rw (is colKind (omega arith)))
+    kids-in (number (date f) e) is = no-kids (is colEnd (omega arith) ∙ e) (rw (is colKind (omega arith)))
     kids-in (text string v e) is = no-kids (is colEnd (omega arith) ∙ e) (rw (is colKind (omega arith)))
     kids-in (text xmlDocument v e) is = no-kids (is colEnd (omega arith) ∙ e) (rw (is colKind (omega arith)))
     kids-in (text xml v e) is = no-kids (is colEnd (omega arith) ∙ e) (rw (is colKind (omega arith)))
@@ -286,11 +279,6 @@ pub record Table (R B : List ℕ) (u : ℕ) : Type 0 where
   pub some : 0 < rowsIn R
   pub root : at (land R (rowsIn R) B u) 0 colKeyMark ≡ 0
   pub last : at (land R (rowsIn R) B u) 0 colEnd ≡ rowsIn R
-
--- a row can be written, or it is a late date
-pub data Writes (R B : List ℕ) (i : ℕ) : Type 0 where
-  written : writable R B i ≡ true → Writes R B i
-  dated : col R i colKind ≡ kindDate → 2 ^ 53 < col R i colNumber → Writes R B i
 
 module _ {R B : List ℕ} {u : ℕ} (table : Table R B u) where
   abbrev M : Land
@@ -372,33 +360,18 @@ module _ {R B : List ℕ} {u : ℕ} (table : Table R B u) where
     body-writable : bodyWritable R B i (S .kind) ≡ true
     body-writable = same-body R (colsOf S) B i 0 (S .kind) alike ∙ (of-kind .body)
 
-    is-writable : numberWritable R i (S .kind) ≡ true → writable R B i ≡ true
+    number-writable : numberWritable R i (S .kind) ≡ true
+    number-writable = number-fits R B u i _ _ _ (S .form) (is-row i h S)
+
+    pub can-be-written : writable R B i ≡ true
     unfolding writable
-    is-writable n = rw (kind-is, n, body-writable, key-writable)
+    can-be-written = rw (kind-is, number-writable, body-writable, key-writable)
 
-  writes : (i : ℕ) (h : i < rowsIn R) → Timely R B u i (table .all i h .kind) → Writes R B i
-  writes i h (timely e) = written (is-writable i h e)
-  writes i h (untimely k l) = dated (kind-is i h ∙ k) l
-
-  pub all-write : (i : ℕ) → i < rowsIn R → Writes R B i
-  all-write i h = writes i h (number-fits R B u i _ _ _ (table .all i h .form) (is-row i h (table .all i h)))
-
-  one-more : (i : ℕ) (t : Tested) → Passes R t → Writes R B i → Passes R (cond (writable R B i) t (faulty 14 i))
-  one-more i t p (written e) = rw e p
-  one-more i t p (dated k l) = on-bool (writable R B i) (λ e. rw e p) (λ e. rw e (late k l))
-
-  test-from : (n i : ℕ) → i + n ≡ rowsIn R → Passes R (testFrom R B i n)
+  test-from : (n i : ℕ) → i + n ≡ rowsIn R → testFrom R B i n ≡ fine
   unfolding testFrom
-  test-from zero i e = passes
-  test-from (suc n) i e =
-      let h : i < rowsIn R = omega arith in
-      rw (well-formed i h) (one-more i (testFrom R B (suc i) n) (test-from n (suc i) (omega arith)) (all-write i h))
+  test-from zero i e = refl
+  test-from (suc n) i e = let h : i < rowsIn R = omega arith in rw (well-formed i h, can-be-written i h) (test-from n (suc i) (omega arith))
 
-  pub passing : Passes R (tested R B)
+  pub passing : tested R B ≡ fine
   unfolding tested
   passing = let s = table .some in rw (ne-eqb (rowsIn R) 0 (λ e. omega arith)) (test-from (rowsIn R) 0 (omega arith))
-
--- without late dates it is fine
-pub fine-without : {R : List ℕ} {t : Tested} → Passes R t → ((i : ℕ) → col R i colKind ≡ kindDate → col R i colNumber ≤ 2 ^ 53) → t ≡ fine
-fine-without passes h = refl
-fine-without (late {i = i} k l) h = let a = h i k in absurd (omega arith)

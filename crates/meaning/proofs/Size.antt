@@ -6,8 +6,6 @@ use mathlib.Core.Option.{Option, none, some}
 use Prim.Native.Nat.{ℕ, suc, _+_, _*_, _/_, _≤_, _<_}
 use native.Mathlib.Omega.{arith}
 use lib.Dec.{lit<, lit≤, leb}
-use lib.IntN.{pos}
-use lib.Ieee.{binary64, ofInt, toBits}
 use lib.ListN.{length, length-append}
 use borrow.Author.Tests.{leb-true, ne-eqb}
 use Rattle.wire.specs.U29.{u29}
@@ -59,7 +57,7 @@ plain-size (string t) = simp length-append (omega (arith, text-size t))
 plain-size (xmlDocument t) = simp length-append (omega (arith, word-size (length t * 2 + 1)))
 plain-size (xml t) = simp length-append (omega (arith, word-size (length t * 2 + 1)))
 plain-size (byteArray t) = simp length-append (omega (arith, word-size (length t * 2 + 1)))
-plain-size (date ms) = omega (arith, bytes-length 8 (toBits binary64 (ofInt binary64 (pos ms))))
+plain-size (date bits) = omega (arith, bytes-length 8 bits)
 plain-size (intVector fixed t) = simp length-append (omega (arith, word-size (length t / 4 * 2 + 1)))
 plain-size (uintVector fixed t) = simp length-append (omega (arith, word-size (length t / 4 * 2 + 1)))
 plain-size (doubleVector fixed t) = simp length-append (omega (arith, word-size (length t / 8 * 2 + 1)))

@@ -350,7 +350,7 @@ module _ (g : Given) (k : Key) (m₀ : Memory) (c₀ : Cursor) (ok₀ : Ok m₀ 
     new-post ofXmlDocument n m c bs x one = xml-post m c one value n bs xmlDocument x
     new-post ofXml n m c bs x one = xml-post m c one value n bs xml x
     new-post ofDate n m c bs x one = post-then _ _ (wp-number m 7 0 c bs (λ bits a bs.
-        post-by _ m bs _ (wp-date (c₀ .rows) (m .rows) _ bits (λ v. number-val m _ (stage-at x a) one date))))
+        post-by _ m bs _ (wp-date (c₀ .rows) (m .rows) _ bits (λ v. number-val m _ (stage-at x a) one (date v)))))
     new-post ofArray n m c bs x one = array-post n m c bs x one
     new-post ofBytes n m c bs x one = bytes-post m c one value n bs x
     new-post ofInts n m c bs x one = raw-post m c one value four n bs ints x

@@ -2,6 +2,7 @@
 use mathlib.Core.Path.{_≡_, ap, sym, _∙_}
 use mathlib.Core.List.{List}
 use Prim.Native.Nat.{ℕ}
+use Rattle.wire.specs.declared.Moment.{Moment}
 use Rattle.rows.specs.Memory.{Memory}
 use Rattle.format.specs.declared.Answer.{Answer}
 use Rattle.format.specs.declared.Written.{Written}
@@ -11,9 +12,10 @@ use Rattle.feed.specs.declared.State.{State}
 use Rattle.feed.specs.Calls.{stateNumbers}
 use Rattle.pinebuckle.specs.declared.Coded.{Coded}
 use Rattle.pinebuckle.specs.declared.Place.{Place}
+use Rattle.pinebuckle.specs.declared.Instant.{Instant}
 use Rattle.pinebuckle.specs.Coding.{Passed, passed, codedFed, left, put}
-use Rattle.pinebuckle.specs.Contracts.{BeginContract, FeedContract, EndContract, ReadContract, WriteContract, TextContract}
-use Rattle.pinebuckle.specs.Contracts.{CBeginContract, CFeedContract, CEndContract, CReadContract, CWriteContract, CTextContract}
+use Rattle.pinebuckle.specs.Contracts.{BeginContract, FeedContract, EndContract, ReadContract, WriteContract, TextContract, MillisContract}
+use Rattle.pinebuckle.specs.Contracts.{CBeginContract, CFeedContract, CEndContract, CReadContract, CWriteContract, CTextContract, CMillisContract}
 
 -- numbers as they lie in memory
 abbrev placed : Numbers → State
@@ -77,3 +79,11 @@ one-text x y rows store row default p q = p ∙ sym q
 
 pub one-pb-text : (x y : Place) (rows store : List ℕ) (row : ℕ) → CTextContract x rows store row → CTextContract y rows store row → x ≡ y
 one-pb-text x y rows store row p q = p ∙ sym q
+
+-- ---- millis
+
+pub one-millis : (x y : Moment) (rows store : List ℕ) (row : ℕ) → MillisContract x rows store row → MillisContract y rows store row → x ≡ y
+one-millis x y rows store row p q = p ∙ sym q
+
+pub one-pb-millis : (x y : Instant) (rows store : List ℕ) (row : ℕ) → CMillisContract x rows store row → CMillisContract y rows store row → x ≡ y
+one-pb-millis x y rows store row p q = p ∙ sym q

@@ -1,6 +1,9 @@
 -- The answers of the calls as C has them.
 use mathlib.Core.List.{List}
 use Prim.Native.Nat.{ℕ}
+use lib.IntN.{pos}
+use Rattle.wire.specs.declared.Moment.{Moment}
+use Rattle.wire.specs.declared.Moment.the-variants.{None, At}
 use Rattle.rows.specs.Memory.{Memory}
 use Rattle.format.specs.declared.Answer.{Answer}
 use Rattle.format.specs.declared.Answer.the-variants.{Waiting, Finished, Refused}
@@ -11,6 +14,7 @@ use Rattle.format.specs.Answers.{Fed, fed, Read, read, Output, output}
 use Rattle.format.specs.Text.{Found, nowhere, found}
 use Rattle.pinebuckle.specs.declared.Coded.{Coded}
 use Rattle.pinebuckle.specs.declared.Place.{Place}
+use Rattle.pinebuckle.specs.declared.Instant.{Instant}
 
 -- what an answer says
 abbrev pub sayWaiting : ℕ
@@ -57,3 +61,7 @@ codedWrite (output a out) = put (writtenCode a) out
 abbrev pub spanCode : Found → Place
 spanCode nowhere = record { found = 0; begin = 0; length = 0 }
 spanCode (found begin size) = record { found = 1; begin = begin; length = size }
+
+abbrev pub momentCode : Moment → Instant
+momentCode None = record { found = 0; millis = pos 0 }
+momentCode (At n) = record { found = 1; millis = n }

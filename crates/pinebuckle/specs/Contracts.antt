@@ -5,13 +5,15 @@ use Prim.Native.Nat.{ℕ}
 use Rattle.rows.specs.Memory.{Memory}
 use Rattle.format.specs.declared.Answer.{Answer}
 use Rattle.format.specs.declared.Written.{Written}
-use Rattle.format.specs.Answers.{fed, beginCall, feedCall, endCall, read, readCall, output, writeCall, textCall}
+use Rattle.format.specs.Answers.{fed, beginCall, feedCall, endCall, read, readCall, output, writeCall, textCall, millisCall}
 use Rattle.format.specs.Text.{textSpan}
 use Rattle.feed.specs.declared.State.{State}
 use Rattle.feed.specs.Calls.{stateNumbers}
+use Rattle.wire.specs.declared.Moment.{Moment}
 use Rattle.pinebuckle.specs.declared.Coded.{Coded}
+use Rattle.pinebuckle.specs.declared.Instant.{Instant}
 use Rattle.pinebuckle.specs.declared.Place.{Place}
-use Rattle.pinebuckle.specs.Coding.{passed, codedFed, left, codedRead, put, codedWrite, spanCode}
+use Rattle.pinebuckle.specs.Coding.{passed, codedFed, left, codedRead, put, codedWrite, spanCode, momentCode}
 
 -- ---- in Rattle; loans and state before the call are named `lent` and `from`
 
@@ -33,6 +35,9 @@ WriteContract a P rows store out = output a P ≡ writeCall rows store out
 abbrev pub TextContract : List ℕ → List ℕ → List ℕ → ℕ → List ℕ → Type 0
 TextContract part rows store row default = part ≡ textCall rows store row default
 
+abbrev pub MillisContract : Moment → List ℕ → List ℕ → ℕ → Type 0
+MillisContract moment rows store row = moment ≡ millisCall rows store row
+
 -- ---- in C
 
 abbrev pub CBeginContract : Coded → State → Memory → Memory → Type 0
@@ -52,3 +57,6 @@ CWriteContract a P rows store out = put a P ≡ codedWrite (writeCall rows store
 
 abbrev pub CTextContract : Place → List ℕ → List ℕ → ℕ → Type 0
 CTextContract place rows store row = place ≡ spanCode (textSpan rows store row)
+
+abbrev pub CMillisContract : Instant → List ℕ → List ℕ → ℕ → Type 0
+CMillisContract a rows store row = a ≡ momentCode (millisCall rows store row)

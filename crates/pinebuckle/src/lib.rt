@@ -19,14 +19,15 @@ pub use rows::TRAIT_WIDTH;
 pub use rows::columns;
 pub use rows::kinds;
 pub use rows::loans;
+pub use wire::Moment;
 ghost use Rattle.rows.specs.Memory.{atEntry, atExit, Memory};
 ghost use mathlib.Core.Path.{_≡_};
 ghost use Rattle.format.specs.Answers.{fed, beginCall, feedCall, endCall};
 ghost use Rattle.pieces.specs.States.{numbers};
 ghost use Rattle.feed.specs.Calls.{stateNumbers};
 ghost use Rattle.pinebuckle.specs.Coding.{sayWaiting, sayFinished, sayRefused, code, codeOf, passed, codedFed};
-ghost use Rattle.pinebuckle.specs.Contracts.{BeginContract, FeedContract, EndContract, ReadContract, WriteContract, TextContract};
-ghost use Rattle.pinebuckle.specs.Contracts.{CBeginContract, CFeedContract, CEndContract, CReadContract, CWriteContract, CTextContract};
+ghost use Rattle.pinebuckle.specs.Contracts.{BeginContract, FeedContract, EndContract, ReadContract, WriteContract, TextContract, MillisContract};
+ghost use Rattle.pinebuckle.specs.Contracts.{CBeginContract, CFeedContract, CEndContract, CReadContract, CWriteContract, CTextContract, CMillisContract};
 
 // Begins a reading: it waits for the first byte, or a loan is wrong.
 pub fn begin(
@@ -121,6 +122,13 @@ pub fn text<'a>(rows: &'a [usize], store: &'a [u8], row: usize, default: &'a [u8
     text::text(rows, store, row, default)
 }
 
+// The milliseconds of a row's date, or none.
+pub fn millis(rows: &[usize], store: &[u8], row: usize) -> Moment
+    ensures { λ r. ⌜ MillisContract r (now (rows .entry)) (now (store .entry)) row ⌝ }
+{
+    text::moment(rows, store, row)
+}
+
 // ---- as C has them
 
 // What an answer says.
@@ -148,6 +156,13 @@ pub struct Place {
     pub found: usize,
     pub begin: usize,
     pub length: usize,
+}
+
+// A date's milliseconds, if one was found.
+#[repr(C)]
+pub struct Instant {
+    pub found: usize,
+    pub millis: i64,
 }
 
 fn refused(no: usize, told: usize, place: usize, taken: usize) -> Coded
@@ -404,5 +419,20 @@ pub extern "C" fn pb_text(rows: &[usize], store: &[u8], row: usize) -> Place
             begin: s.begin,
             length: s.size,
         },
+    }
+}
+
+// `millis`.
+#[no_mangle]
+pub extern "C" fn pb_millis(rows: &[usize], store: &[u8], row: usize) -> Instant
+    ensures { λ x. ⌜ CMillisContract x (now (rows .entry)) (now (store .entry)) row ⌝ }
+{
+    let a = millis(rows, store, row);
+    match a {
+        Moment::None => Instant {
+            found: 0,
+            millis: 0,
+        },
+        Moment::At(millis) => Instant { found: 1, millis },
     }
 }

@@ -19,12 +19,10 @@ use Rattle.wire.specs.declared.Size.{Size}
 use Rattle.wire.specs.declared.Size.the-variants.{Old, New}
 use Rattle.wire.specs.declared.Shape.{Shape}
 use Rattle.wire.specs.declared.Shape.the-variants.{Object, Known, External, Inline}
-use Rattle.wire.specs.declared.Date.{Date}
-use Rattle.wire.specs.declared.Date.the-variants.{Millis, Refused}
 use Rattle.wire.specs.Word.{sizeOf, shapeOf}
 use Rattle.meaning.proofs.Own.{follows-is, size-is, object-is}
 use Rattle.wire.specs.Big.{numberOf}
-use Rattle.wire.specs.Date.{dateOf}
+use Rattle.wire.specs.Date.{refusedDate}
 use Rattle.utf8.specs.Grammar.{validText}
 use Rattle.format.specs.Decide as k
 use Rattle.format.specs.Decide.{Body, Kind, give, refuse, lost, Decision, lift, looking, onRows, onObjects, onTraits, inRow, kindOf}
@@ -109,7 +107,7 @@ plain-row (string t) = omega arith
 plain-row (xmlDocument t) = omega arith
 plain-row (xml t) = omega arith
 plain-row (byteArray t) = omega arith
-plain-row (date ms) = omega arith
+plain-row (date bits) = omega arith
 plain-row (intVector fixed t) = omega arith
 plain-row (uintVector fixed t) = omega arith
 plain-row (doubleVector fixed t) = omega arith
@@ -427,11 +425,11 @@ module _ (v : Values) (tree : Std Tree) (left : ℕ) (ih : (key : Key) → Pays 
   new-give : (f b : ℕ) (body : Body) (n : ℕ) → Gives (λ e. Within (anObject 0) (ofTree e)) (std.newOf tree f b body n)
   unfolding std.newOf
   new-give f b k.xml n = gives-bind (chars-takes n) (λ t. gives-ret (let w = xml-room b t in omega arith))
-  new-give f b k.date n = gives-bind (bytes-takes 8) (λ t. dated (numberOf 0 t) (dateOf (numberOf 0 t)))
+  new-give f b k.date n = gives-bind (bytes-takes 8) (λ t. dated (numberOf 0 t) (refusedDate (numberOf 0 t)))
     where
-      dated : (bits : ℕ) (d : Date) → Gives (λ e. Within (anObject 0) (ofTree e)) (std.dated bits d)
-      dated bits Refused = gives-fail takes-fail (λ s p bs. tt)
-      dated bits (Millis n) = gives-ret (unfold ofTree ofPlain in omega arith)
+      dated : (bits : ℕ) (t : Bool) → Gives (λ e. Within (anObject 0) (ofTree e)) (cond t (fail refusals.badDate bits) (ret (plain (date bits))))
+      dated bits true = gives-fail takes-fail (λ s p bs. tt)
+      dated bits false = gives-ret (unfold ofTree ofPlain in omega arith)
   new-give f b k.array n =
       gives-bind (pairs-take tree-takes f) (λ xs. gives-bind (trees-take tree-takes n) (λ ts. gives-ret (unfold ofTree in omega arith)))
   new-give f b k.bytes n = gives-bind (bytes-takes n) (λ t. gives-ret (unfold ofTree ofPlain in omega arith))
@@ -481,16 +479,17 @@ module _ (v : Values) (tree : Std Tree) (left : ℕ) (ih : (key : Key) → Pays 
   new-date : (row f b n : ℕ) → News row f b k.date n
   unfolding our.newOf std.newOf
   new-date row f b n =
-      pays-bind (λ t. anObject 0) _ _ (pays-number 7 0) (λ t. omega arith) (λ t. given-date (numberOf 0 t) (dateOf (numberOf 0 t)))
-      (λ bits t e. pays-end _ (pays-free _ (given-date (numberOf 0 t) (dateOf (numberOf 0 t)) .takes) (spends-date row bits) (λ a q. dated (numberOf 0 t) (dateOf (numberOf 0 t)))))
+      pays-bind (λ t. anObject 0) _ _ (pays-number 7 0) (λ t. omega arith) (λ t. given-date (numberOf 0 t) (refusedDate (numberOf 0 t)))
+      (λ bits t e. pays-end _ (pays-free _ (given-date (numberOf 0 t) (refusedDate (numberOf 0 t)) .takes) (spends-date row bits) (λ a q. dated (numberOf 0 t) (refusedDate (numberOf 0 t)))))
     where
-      given-date : (bits : ℕ) (d : Date) → Gives (λ e. Within (anObject 0) (ofTree e) × (Deep (suc left) e → Unit {0})) (std.dated bits d)
-      given-date bits Refused = gives-fail takes-fail (λ s p bs. tt)
-      given-date bits (Millis n) = gives-ret ((unfold ofTree ofPlain in omega arith), λ i. tt)
+      given-date : (bits : ℕ) (t : Bool) → Gives (λ e. Within (anObject 0) (ofTree e) × (Deep (suc left) e → Unit {0}))
+          (cond t (fail refusals.badDate bits) (ret (plain (date bits))))
+      given-date bits true = gives-fail takes-fail (λ s p bs. tt)
+      given-date bits false = gives-ret ((unfold ofTree ofPlain in omega arith), λ i. tt)
 
-      dated : (bits : ℕ) (d : Date) → Pays ofTree (Deep (suc left)) Both (anObject 0) (ret (tt {0})) (std.dated bits d)
-      dated bits Refused = pays-never
-      dated bits (Millis n) = pays-ret (unfold ofTree ofPlain in omega arith) tt
+      dated : (bits : ℕ) (t : Bool) → Pays ofTree (Deep (suc left)) Both (anObject 0) (ret (tt {0})) (cond t (fail refusals.badDate bits) (ret (plain (date bits))))
+      dated bits true = pays-never
+      dated bits false = pays-ret (unfold ofTree ofPlain in omega arith) tt
 
   new-bytes : (row f b n : ℕ) → News row f b k.bytes n
   unfolding our.newOf std.newOf

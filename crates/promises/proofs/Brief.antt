@@ -12,19 +12,17 @@ use Rattle.wire.specs.declared.Size.{Size}
 use Rattle.wire.specs.declared.Size.the-variants.{Old, New}
 use Rattle.wire.specs.declared.Shape.{Shape}
 use Rattle.wire.specs.declared.Shape.the-variants.{Object, Known, External, Inline}
-use Rattle.wire.specs.declared.Date.{Date}
-use Rattle.wire.specs.declared.Date.the-variants.{Millis, Refused}
 use Rattle.format.specs.Standard.{keptText, classGiven, sizeSays, objectSays, follows}
 use Rattle.wire.specs.Big.{numberOf}
-use Rattle.wire.specs.Date.{dateOf}
+use Rattle.wire.specs.Date.{refusedDate}
 use Rattle.utf8.specs.Grammar.{validText}
 use Rattle.format.specs.Decide as k
 use Rattle.format.specs.Decide.{Kind, Body, widthOf}
 use Rattle.format.specs.Reading as our
 use Rattle.format.specs.Reading.{ResultOf, ok, bad, bind, _>>=_, ret}
-use Rattle.format.specs.Standard.{Tree, plain, object, Traits, Tables, Std, fail, lookup, change, byte, bytes}
+use Rattle.format.specs.Standard.{Tree, plain, date, object, Traits, Tables, Std, fail, lookup, change, byte, bytes}
 use Rattle.format.specs.Standard.{word, chars, textOf, text, opened, shut, finishedObject, objectAt, names, newTraits, trees, sealed, pairsFrom, pairs}
-use Rattle.format.specs.Standard.{dynamics, entries, members, objectOf, dated, newOf, sizedOf, marked, value, standard, noTables, starred, leafOf}
+use Rattle.format.specs.Standard.{dynamics, entries, members, objectOf, newOf, sizedOf, marked, value, standard, noTables, starred, leafOf}
 use Rattle.format.specs.Holds.{Room, _and_, ofText, ofClass, ofPlain, ofTree, ofTrees, ofPairs, ofSealed, ofEntries, canHold}
 use Rattle.format.proofs.Loans.{lent}
 use Rattle.meaning.proofs.Size.{holds}
@@ -254,11 +252,11 @@ module _ (v : Std Tree) (h : Brief 0 treeHeft v) (sealedCost : (xs : List (List 
   new-brief : (f b : ℕ) (body : Body) (n : ℕ) → Brief 5 treeHeft (newOf v f b body n)
   unfolding newOf
   new-brief f b k.xml n = brief-bind (chars-brief n) (λ t. brief-ret (let w = xml-room b t in omega arith))
-  new-brief f b k.date n = brief-told (λ t. length t ≡ 8) (bytes-long 8 .gives) (bytes-brief 8) (λ t e. date (length t) (omega arith) (numberOf 0 t) (dateOf (numberOf 0 t)))
+  new-brief f b k.date n = brief-told (λ t. length t ≡ 8) (bytes-long 8 .gives) (bytes-brief 8) (λ t e. dated (length t) (omega arith) (numberOf 0 t) (refusedDate (numberOf 0 t)))
     where
-      date : (m : ℕ) → m ≤ 8 → (bits : ℕ) (d : Date) → Brief (5 + m) treeHeft (dated bits d)
-      date m l bits Refused = brief-fail
-      date m l bits (Millis n) = brief-ret (unfold ofTree ofPlain in omega arith)
+      dated : (m : ℕ) → m ≤ 8 → (bits : ℕ) (t : Bool) → Brief (5 + m) treeHeft (cond t (fail refusals.badDate bits) (ret (plain (date bits))))
+      dated m l bits true = brief-fail
+      dated m l bits false = brief-ret (unfold ofTree ofPlain in omega arith)
   new-brief f b k.array n = brief-bind (pairs-brief f) (λ xs. brief-bind (trees-brief n) (λ ts. brief-ret (unfold ofTree in omega arith)))
   new-brief f b k.bytes n = brief-bind (bytes-brief n) (λ t. brief-ret (unfold ofTree ofPlain in omega arith))
   new-brief f b (k.raw w) n =

@@ -1,48 +1,56 @@
--- The three demands, and request 13, sentence by sentence, each with its theorem. The proofs stand in the crates format, beside the definitions, and meaning, and in this one.
+-- The three demands, and requests 4 and 13, sentence by sentence, each with its theorem. The proofs stand in the crates format, beside the definitions, and meaning, and in this one.
 -- Where a theorem refuses a wrong program that keeps the others, it says so.
-use mathlib.Core.Path.{_≡_}
-use mathlib.Core.Bool.{true}
+use mathlib.Core.Path.{_≡_, refl}
+use mathlib.Core.Bool.{true, false, cond, not, _&&_}
 use mathlib.Core.Logic.{_≢_}
 use mathlib.Core.List.{List, [], _∷_, _++_, map}
-use Prim.Native.Nat.{ℕ, suc, _+_, _/_, _^_, _≤_, _<_}
-use lib.Dec.{T}
+use Prim.Native.Nat.{ℕ, suc, _+_, _*_, _-_, _/_, _%_, _^_, _≤_, _<_, min}
+use lib.Dec.{T, leb, eqb}
+use lib.IntN.{ℤ, pos, negℤ}
+use lib.Ieee.{fin, binary64, up, down, whole, ofInt, ofBits, toBits, toUnsigned}
 use lib.ListN.{length, take, drop, replicate}
 use Rattle.rows.specs.declared.Cursor.{Cursor}
 use Rattle.rows.specs.declared.Key.{Key}
 use Rattle.rows.specs.declared.Span.{Span}
 use Rattle.wire.specs.declared.Part.the-variants.{Whole}
+use Rattle.wire.specs.declared.Moment.the-variants.{None, At}
 use Rattle.wire.specs.U29.{partOf}
+use Rattle.wire.specs.Big.{numberOf, bytesOf}
+use Rattle.wire.specs.Date.{refusedDate, momentOf, bounded}
 use Rattle.wire.specs.Word.{sizeOf}
 use Rattle.utf8.specs.States.{stepOf}
 use Rattle.rows.specs.Memory.{spanWidth, loanRows, loanStore, loanStrings, loanObjects}
-use Rattle.rows.specs.Memory.{Memory, fresh, zeroed, faultOf, rowsFault, messageLimit, openLimit, noKey, colKind, colBodyBegin, colBodySize, rowsIn, col}
+use Rattle.rows.specs.Memory.{Memory, fresh, zeroed, faultOf, rowsFault, messageLimit, openLimit, noKey, colKind, colBodyBegin, colBodySize, colNumber, rowsIn, col}
+use Rattle.rows.specs.Kinds.{kindDate, kindReference}
 use Rattle.format.specs.Refusals as no
 use Rattle.format.specs.declared.Answer.{Answer}
 use Rattle.format.specs.declared.Answer.the-variants.{Waiting, Finished, Refused}
 use Rattle.format.specs.declared.Written.the-variants.{Bytes as Written, Unwritten}
 use Rattle.format.specs.declared.Frame.{Frame}
+use Rattle.format.specs.Bodies as body
 use Rattle.format.specs.Reading as reader
 use Rattle.format.specs.Reading.{ok, bad, Ended, finished, refused, ended, unlessFault, reading}
 use Rattle.format.specs.Step.{Mode, atMarker, atWord, atText, Word, Text, tableText, Use, wait, over, none, shown, end, run, begin}
 use Rattle.format.specs.Numbers.{Numbers, stateOf, lentOf, framesSize}
-use Rattle.format.specs.Answers.{Fed, fed, answerOf, beginCall, feedCall, endCall, read, readCall, output, writeCall, textCall}
-use Rattle.format.specs.Standard.{Tables, Tree, noTables, value, standard, encode}
+use Rattle.format.specs.Answers.{Fed, fed, answerOf, beginCall, feedCall, endCall, read, readCall, output, writeCall, textCall, millisCall}
+use Rattle.format.specs.Standard.{Tables, Tree, Std, plain, date, noTables, newOf, value, standard, encode}
 use Rattle.format.specs.Unfold.{home, part, node, unfolded}
 use Rattle.format.specs.Holds.{canHold}
-use Rattle.format.specs.RowTest.{fine, tested}
+use Rattle.format.specs.RowTest.{fine, keyWritable, writable, tested}
 use Rattle.format.specs.Writing.{written, unwritten, writing}
 use Rattle.wire.specs.Octets.{Bytes}
 use Rattle.format.specs.Claims.{joined, answerIn, takenIn, untaken, fedBy, fedPieces, tally, untook, endBy, endRead, unread, firstNumbers, refusedNumbers}
 use Rattle.format.specs.Claims.{lostNumbers, placeIn, lastByte, Named, BeginSays, FeedSays, EndSays, ReadSays, WriteRefuses, WriteSays, readAnswer, writeAnswer}
-use Rattle.format.specs.Claims.{Going, FeedLeaves, EndLeaves, Feeds, usedRows, Shallow, Returns, Held-just, Passes, Wide, Again, NoShorter, Roomy, widened, beyond}
+use Rattle.format.specs.Claims.{Going, FeedLeaves, EndLeaves, Feeds, usedRows, Shallow, Returns, Held-just, Wide, Again, NoShorter, Roomy, widened, beyond}
 use Rattle.format.specs.Claims.{extra, used, treeRead, RefusedWith, RowNew, TextKind}
 use Rattle.format.specs.Byte.{Decided-by}
 use Rattle.format.specs.Limits.{Accord, Kept-to, ReadingEnds, asked, Enters}
 use Rattle.format.specs.Meant.{StateMeant}
 use Rattle.format.specs.Together.{Together, HoldsTogether}
 use Rattle.format.specs.Strays.{Strays}
-use Rattle.format.specs.Endings.{TestSays, Outcome, Accepted, depth}
+use Rattle.format.specs.Endings.{TestSays, Ends, Outcome, Accepted, depth}
 use Rattle.format.specs.Orders.{Order, orderBytes, orderTree, backToBack, HoldsEach, findings, readInTurn, fedFindings, foundBefore, fedInTurn}
+use Rattle.wire.proofs.Dates as moments
 use Rattle.format.proofs.Feeding as feeding
 use Rattle.format.proofs.Cuts as cuts
 use Rattle.format.proofs.Pieces as pieces
@@ -72,6 +80,7 @@ use Rattle.promises.proofs.Appears as appears
 use Rattle.promises.proofs.Ranges as ranges
 use Rattle.promises.proofs.Ample as ample
 use Rattle.promises.proofs.Ties as ties
+use Rattle.promises.proofs.Dates as dates
 use Rattle.promises.proofs.Roomy as roomy
 use Rattle.promises.proofs.Trips as trips
 use Rattle.promises.proofs.Behind as behind
@@ -81,7 +90,7 @@ use Rattle.promises.proofs.FedTurns as fed-turns
 -- ======== 1. Total
 
 -- "For any bytes, any rows, any half-read state, any lent memory, each public call ends with an answer that document 01 names. No public call has a requires."
--- By type: beginCall, feedCall, endCall, readCall, writeCall and textCall are functions of anything, and their answers are Answers.antt's. Which of them, and with
+-- By type: beginCall, feedCall, endCall, readCall, writeCall, textCall and millisCall are functions of anything, and their answers are Answers.antt's. Which of them, and with
 -- what values: begin waits or gives 1 with a loan
 pub begin-named : (m : Memory) → BeginSays (answerIn (beginCall m))
 begin-named = ranges.begin-says
@@ -384,9 +393,9 @@ pub call-trip-alone : (R B out P : List ℕ) (n : ℕ) → Wide R → Bytes B �
     → (m : Memory) → canHold m (unfolded R B 0) ≡ true → faultOf m ≡ 0 → Again m (take n P) n (unfolded R B 0)
 call-trip-alone = trips.call-trip-alone
 
--- every table that a reading finished passes 13, and passes 14 unless it has a date over 2^53
+-- every table that a reading finished passes 13 and 14. Refuses: a reader that takes a date which the writer refuses, one over 2^53 say
 pub finished-passes : (m : Memory) (bytes : List ℕ) (c : Cursor) (m′ : Memory) → reading m bytes ≡ finished c m′
-    → Passes (usedRows c m′) (tested (usedRows c m′) (m′ .store))
+    → tested (usedRows c m′) (m′ .store) ≡ fine
 finished-passes = tables.finished-passes
 
 -- and 1 doesn't refuse it
@@ -531,6 +540,110 @@ ended-repeats = pieces.feed-ended
 -- and to the end
 pub ended-repeats-to-end : (n : Numbers) (m k : Memory) (e : Ended) → stateOf n m ≡ over e → endCall n k ≡ fed (answerOf (over e) 0) n k
 ended-repeats-to-end = pieces.end-ended
+
+-- ======== Request 4: orders dated before 1970
+
+-- Here, too, "Refuses:" names a wrong program that the theorem rules out, and others may rule out as well.
+
+-- "a date row holds the 64 bits as they came": wherever a date stands, with any tables and whatever else its word says, the standard reads its eight bytes as one
+-- number, which is the tree's; "NaN and the infinities stay refused": with 7, which tells that number, at the last of them; `reading-means` has it of the reading.
+-- Refuses: a sign dropped behind a trait reference, 7 that tells other bits
+pub date-anywhere : (values : Std Tree) (f b n b₀ b₁ b₂ b₃ b₄ b₅ b₆ b₇ bits : ℕ) → numberOf 0 (b₀ ∷ b₁ ∷ b₂ ∷ b₃ ∷ b₄ ∷ b₅ ∷ b₆ ∷ b₇ ∷ []) ≡ bits
+    → (s : Tables) (p : ℕ) (rest : List ℕ) → newOf values f b body.date n s p (b₀ ∷ b₁ ∷ b₂ ∷ b₃ ∷ b₄ ∷ b₅ ∷ b₆ ∷ b₇ ∷ rest)
+    ≡ cond (refusedDate bits) (bad no.badDate bits (p + 8) s) (ok (plain (date bits)) s (p + 8) rest)
+date-anywhere = dates.date-anywhere
+
+-- refused exactly where the exponent's eleven bits are ones, of either sign
+pub date-refused : (bits : ℕ) → refusedDate bits ≡ eqb (bits % 2 ^ 63 / 2 ^ 52) 2047
+date-refused = moments.refused-ones
+
+-- so that a finite date by itself is read, whatever follows. Refuses: a reader that refuses -0.0
+pub date-read : (bits : ℕ) (m : Memory) → bits < 2 ^ 64 → refusedDate bits ≡ false → faultOf m ≡ 0 → canHold m (plain (date bits)) ≡ true
+    → (rest : List ℕ) → Returns (reading m (0x08 ∷ 0x01 ∷ bytesOf 8 bits ++ rest)) 10 (plain (date bits))
+date-read = dates.date-read
+
+-- and a tree's date is its row's number. Refuses: rows that keep milliseconds
+pub date-tree : (R B : List ℕ) (i : ℕ) → tested R B ≡ fine → i < rowsIn R → col R i colKind ≡ kindDate → unfolded R B i ≡ plain (date (col R i colNumber))
+date-tree = dates.date-tree
+
+-- "milliseconds are worked out when asked": of a row that is a date, and of no other. Refuses: a call that answers for doubles
+pub millis-date : (R B : List ℕ) (i : ℕ) → rowsFault R B ≡ 0 → col R i colKind ≡ kindDate → millisCall R B i ≡ momentOf (col R i colNumber)
+millis-date = dates.millis-date
+
+pub millis-other : (R B : List ℕ) (i : ℕ) → col R i colKind ≢ kindDate → col R i colKind ≢ kindReference → millisCall R B i ≡ None
+millis-other = dates.millis-other
+
+-- "A reference is asked as its target, as for text": one step. Refuses: a call that has none for references, or that follows a reference to a reference
+pub millis-reference : (R B : List ℕ) (i : ℕ) → col R i colKind ≡ kindReference → col R (col R i colNumber) colKind ≢ kindReference
+    → millisCall R B i ≡ millisCall R B (col R i colNumber)
+millis-reference = dates.millis-reference
+
+pub millis-second : (R B : List ℕ) (i : ℕ) → col R i colKind ≡ kindReference → col R (col R i colNumber) colKind ≡ kindReference → millisCall R B i ≡ None
+millis-second = dates.millis-second
+
+-- "where there is no finite date, or text access would find a fault in a loan, row or target, the answer is that there is none": the fault of `text-faulty`, and
+-- rows that aren't there
+pub millis-faulty : (R B : List ℕ) (i : ℕ) → rowsFault R B ≢ 0 → millisCall R B i ≡ None
+millis-faulty = dates.millis-faulty
+
+pub millis-past : (R B : List ℕ) (i : ℕ) → rowsIn R ≤ i → millisCall R B i ≡ None
+millis-past = dates.millis-past
+
+-- none of a date's bits exactly where they aren't finite
+pub moment-none : (bits : ℕ) → refusedDate bits ≡ true → momentOf bits ≡ None
+moment-none = moments.no-moment
+
+pub none-refused : (bits : ℕ) → momentOf bits ≡ None → refusedDate bits ≡ true
+none-refused = moments.none-refused
+
+-- "cut towards zero, signed, held at the ends of the 64-bit range": the whole part of the size, at most 2^63 - 1, or with a minus at most 2^63. Refuses: -1.5 cut to -2
+pub moment-positive : (bits m : ℕ) (e : ℤ) → ofBits binary64 bits ≡ fin false m e → momentOf bits ≡ At (pos (min (m * up e / down e) (2 ^ 63 - 1)))
+moment-positive = moments.moment-positive
+
+pub moment-negative : (bits m : ℕ) (e : ℤ) → ofBits binary64 bits ≡ fin true m e → momentOf bits ≡ At (negℤ (pos (min (m * up e / down e) (2 ^ 63))))
+moment-negative = moments.moment-negative
+
+-- the same by the fields of the bits: the exponent's, which is 1 at 2 ^ -1022, and the digits below the leading one; with a field of 0 it is less than one
+pub moment-by-fields : (bits : ℕ) → 0 < bits % 2 ^ 63 / 2 ^ 52 → bits % 2 ^ 63 / 2 ^ 52 < 2047
+    → momentOf bits ≡ At (bounded (leb (2 ^ 63) bits) ((2 ^ 52 + bits % 2 ^ 52) * 2 ^ (bits % 2 ^ 63 / 2 ^ 52 - 1) / 2 ^ 1074))
+moment-by-fields = moments.moment-by-fields
+
+pub moment-below-one : (bits : ℕ) → bits % 2 ^ 63 / 2 ^ 52 ≡ 0 → momentOf bits ≡ At (pos 0)
+moment-below-one = moments.moment-below-one
+
+-- "-0.0 is accepted and reads as 0 milliseconds"
+pub minus-zero : (refusedDate (2 ^ 63) ≡ false) × (momentOf (2 ^ 63) ≡ At (pos 0))
+minus-zero = (moments.refused-ones (2 ^ 63), moments.moment-below-one (2 ^ 63) refl)
+
+-- "The writer puts the 64 bits back". Refuses: a date written without its last bit
+pub date-written : (bits : ℕ) → encode (plain (date bits)) ≡ 0x08 ∷ 0x01 ∷ bytesOf 8 bits
+date-written = dates.date-written
+
+-- "so 14 for dates over 2^53 goes, and a date row that isn't finite gives 14": it asks nothing else of a date but its key. Refuses: 14 for a date over 2^53 in rows
+-- that no reading made
+pub date-writable : (R B : List ℕ) (i : ℕ) → col R i colKind ≡ kindDate
+    → writable R B i ≡ (not (eqb (col R i colNumber % 2 ^ 63 / 2 ^ 52) 2047) && keyWritable R B i)
+date-writable = dates.date-writable
+
+-- "The round trip of demand 2 now covers every date read": what was read, 1, 13 and 14 don't refuse; its writing ends as its tree says: written, too deep, or no room.
+-- `round-trip` and `call-trip` then read it back
+pub finished-ends : (m : Memory) (bytes : List ℕ) (c : Cursor) (m′ : Memory) → reading m bytes ≡ finished c m′
+    → (out : List ℕ) → Ends (unfolded (usedRows c m′) (m′ .store) 0) out (writing (usedRows c m′) (m′ .store) out)
+finished-ends = dates.finished-ends
+
+-- "Equality with the crate is kept in reading for dates it accepts below 2^63, compared by milliseconds": the crate casts the double to 64 bits without a sign
+pub crate-reads : (bits : ℕ) → bits < 2 ^ 63 → refusedDate bits ≡ false → toUnsigned 64 (ofBits binary64 bits) < 2 ^ 63
+    → momentOf bits ≡ At (pos (toUnsigned 64 (ofBits binary64 bits)))
+crate-reads = moments.reads-as-crate
+
+-- "and in writing for whole ones from +0 to 2^53": it writes the double of the milliseconds that it read
+pub crate-writes : (bits : ℕ) → bits < 2 ^ 63 → T (whole binary64 (ofBits binary64 bits))
+    → encode (plain (date bits)) ≡ 0x08 ∷ 0x01 ∷ bytesOf 8 (toBits binary64 (ofInt binary64 (pos (toUnsigned 64 (ofBits binary64 bits)))))
+crate-writes = dates.crate-writes
+
+-- and what it writes for such milliseconds reads as these
+pub crate-millis : (millis : ℕ) → millis ≤ 2 ^ 53 → momentOf (toBits binary64 (ofInt binary64 (pos millis))) ≡ At (pos millis)
+crate-millis = moments.date-round
 
 -- ======== Request 13: no order hides in another
 

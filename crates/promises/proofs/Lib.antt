@@ -30,6 +30,8 @@ pub mod OnePiece
 pub mod FedTurns
 -- What each call is of.
 pub mod Ties
+-- Dates by their bits, and their milliseconds.
+pub mod Dates
 -- The demands, and wrong programs that each breaks.
 pub mod Demands
 pub mod Refuted

@@ -22,19 +22,17 @@ use Rattle.wire.specs.declared.Size.{Size}
 use Rattle.wire.specs.declared.Size.the-variants.{Old, New}
 use Rattle.wire.specs.declared.Shape.{Shape}
 use Rattle.wire.specs.declared.Shape.the-variants.{Object, Known, External, Inline}
-use Rattle.wire.specs.declared.Date.{Date}
-use Rattle.wire.specs.declared.Date.the-variants.{Millis, Refused}
 use Rattle.wire.specs.U29.{partOf}
 use Rattle.wire.specs.Word.{sizeOf, shapeOf}
 use Rattle.wire.specs.Big.{digitOf}
-use Rattle.wire.specs.Date.{dateOf}
+use Rattle.wire.specs.Date.{refusedDate}
 use Rattle.wire.specs.Sign.{integerOf, columnOf}
 use Rattle.utf8.specs.States.{stepOf}
 use Rattle.wire.proofs.Octets.{Bytes}
 use Rattle.format.specs.Decide as k
-use Rattle.format.specs.Decide.{Out, stop, give, lost, Decision, lift, looking, onRows, onStore, onStrings, onObjects, onTraits, onNames, inRow}
+use Rattle.format.specs.Decide.{Out, stop, give, refuse, lost, Decision, lift, looking, onRows, onStore, onStrings, onObjects, onTraits, onNames, inRow}
 use Rattle.format.specs.Decide.{Width, Body, Kind, widthOf, kindOf, classOf, traitAt, traitHolds, traitOf}
-use Rattle.format.specs.Decide.{closed, numbered, integerEnd, dated, dateEnd, bodied, classed, objectClass, vectorClass, flagged, counted, keyEnd, grown, marker, newRow}
+use Rattle.format.specs.Decide.{closed, numbered, integerEnd, dateEnd, bodied, classed, objectClass, vectorClass, flagged, counted, keyEnd, grown, marker, newRow}
 use Rattle.format.specs.Decide.{oldText, reserved, stored, judged, textEnd, entered, referred, oldTrait, named, traitEnd, sealedKey, starred}
 use Rattle.format.specs.Reading as r
 use Rattle.format.specs.Reading.{ResultOf, Result, ok, bad, bind, _>>=_, ret, Reader, Values, by, decided, taken, Ended, finished, refused, ended, reading}
@@ -361,7 +359,7 @@ module _ {w : Longer} where
 
   over-date : (row bits : ℕ) → Over w (by (onRows (dateEnd row bits)))
   unfolding dateEnd
-  over-date row bits = over-rows (λ R c. keep (more (w .rows)) (rowUsed R c row) (rowUsed (more (w .rows) R) c row) _ _ (λ e. used R c e) (λ e. date R c (dateOf bits)))
+  over-date row bits = over-rows (λ R c. keep (more (w .rows)) (rowUsed R c row) (rowUsed (more (w .rows) R) c row) _ _ (λ e. used R c e) (λ e. date R c (refusedDate bits)))
     where
       used : (R : List ℕ) (c : Cursor) → rowUsed R c row ≡ true → rowUsed (more (w .rows) R) c row ≡ true
       used R c e =
@@ -369,9 +367,10 @@ module _ {w : Longer} where
           let b = leb-true (c .rows) (length R / rowWidth) (q .1) in
           rw (q .0) (le-leb (c .rows) (length (more (w .rows) R) / rowWidth) (omega (arith, more-length (w .rows) R)))
 
-      date : (R : List ℕ) (c : Cursor) (d : Date) → Like w (more (w .rows)) (dated row bits d R c) (dated row bits d (more (w .rows) R) c)
-      date R c Refused = stops
-      date R c (Millis n) = numbered-like (w .rows) row n R c
+      date : (R : List ℕ) (c : Cursor) (t : Bool) → Like w (more (w .rows)) (cond t (refuse refusals.badDate bits c) (numbered row bits R c))
+          (cond t (refuse refusals.badDate bits c) (numbered row bits (more (w .rows) R) c))
+      date R c true = stops
+      date R c false = numbered-like (w .rows) row bits R c
 
   over-marker : (key : Key) (left b : ℕ) → Over w (by (onRows (marker key left b)))
   unfolding marker newRow

@@ -17,19 +17,17 @@ use Rattle.wire.specs.declared.Part.{Part}
 use Rattle.wire.specs.declared.Part.the-variants.{More, Whole, Astray}
 use Rattle.wire.specs.declared.Size.{Size}
 use Rattle.wire.specs.declared.Size.the-variants.{Old, New}
-use Rattle.wire.specs.declared.Date.{Date}
-use Rattle.wire.specs.declared.Date.the-variants.{Millis, Refused}
 use Rattle.wire.specs.Big.{digitOf}
 use Rattle.wire.specs.U29.{partOf}
 use Rattle.wire.specs.Word.{sizeOf}
 use Rattle.meaning.proofs.Own.{size-is}
-use Rattle.wire.specs.Date.{dateOf}
+use Rattle.wire.specs.Date.{refusedDate}
 use Rattle.wire.specs.Sign.{integerOf, columnOf}
 use Rattle.wire.proofs.U29.{Step, step, astray, fourth, last, more}
 use Rattle.utf8.specs.States.{stepOf}
 use Rattle.utf8.specs.Grammar.{validText}
 use Rattle.format.specs.Decide.{Out, give, refuse, lost, Decision, lift, looking, onRows, onStore, onStrings, onObjects, onNames}
-use Rattle.format.specs.Decide.{Width, closed, numbered, integerEnd, dated, dateEnd, bodied, classed, objectClass, vectorClass, flagged, counted, keyEnd, grown}
+use Rattle.format.specs.Decide.{Width, closed, numbered, integerEnd, dateEnd, bodied, classed, objectClass, vectorClass, flagged, counted, keyEnd, grown}
 use Rattle.format.specs.Decide.{marker, reserved, stored, judged, entered, named, sealedKey, starred, oldText, textEnd, stringsTo, traitsTo}
 use Rattle.format.specs.Reading as our
 use Rattle.format.specs.Reading.{ResultOf, ok, bad, Reader, _>>=_, ret, decided, by}
@@ -77,11 +75,11 @@ module _ (row : ℕ) where
 
   pub spends-date : (bits : ℕ) → Spends Any (onRows (dateEnd row bits)) nothing
   unfolding dateEnd
-  spends-date bits = record { goes = goes-date row bits; keeps = λ m c. keeps-cond m c (withRows m) (rowUsed (m .rows) c row) _ _ (date m c (dateOf bits)) halts }
+  spends-date bits = record { goes = goes-date row bits; keeps = λ m c. keeps-cond m c (withRows m) (rowUsed (m .rows) c row) _ _ (date m c (refusedDate bits)) halts }
     where
-      date : (m : Memory) (c : Cursor) (d : Date) → Keeps m c (lift (withRows m) (dated row bits d (m .rows) c))
-      date m c Refused = halts
-      date m c (Millis n) = spends-numbered n .keeps m c
+      date : (m : Memory) (c : Cursor) (t : Bool) → Keeps m c (lift (withRows m) (cond t (refuse refusals.badDate bits c) (numbered row bits (m .rows) c)))
+      date m c true = halts
+      date m c false = spends-numbered bits .keeps m c
 
   pub spends-bodied : (s : Span) → Spends Any (onRows (bodied row s)) nothing
   unfolding bodied

@@ -14,11 +14,9 @@ use Rattle.rows.specs.declared.Span.{Span}
 use Rattle.rows.specs.declared.Key.{Key}
 use Rattle.rows.specs.declared.Trait.{Trait}
 use Rattle.rows.specs.Memory.{Memory, memory, rowWidth, spanWidth, traitWidth, colEnd, col, rowUsed, spanAt, spanUsed}
-use Rattle.wire.specs.declared.Date.{Date}
-use Rattle.wire.specs.declared.Date.the-variants.{Millis, Refused as Undated}
-use Rattle.wire.specs.Date.{dateOf}
-use Rattle.format.specs.Decide.{Out, stop, give, lost, Width, traitAt}
-use Rattle.format.specs.Decide.{newRow, marker, closed, numbered, integerEnd, dated, dateEnd, bodied, classed, objectClass, vectorClass, flagged, counted, keyEnd, grown}
+use Rattle.wire.specs.Date.{refusedDate}
+use Rattle.format.specs.Decide.{Out, stop, give, refuse, lost, Width, traitAt}
+use Rattle.format.specs.Decide.{newRow, marker, closed, numbered, integerEnd, dateEnd, bodied, classed, objectClass, vectorClass, flagged, counted, keyEnd, grown}
 use Rattle.format.specs.Decide.{oldText, reserved, stored, judged, textEnd, entered, referred, traitHolds, oldTrait, named, traitEnd, sealedKey, starred}
 use Rattle.format.specs.Together.{TraitIn, ObjectIn, NameIn}
 use Rattle.format.proofs.Tests.{on-bool, both, clash}
@@ -214,11 +212,11 @@ module _ {w : Watch} {c : Cursor} {m : Memory} (h : Sits w c m) where
   -- a date ends
   pub sure-date : (row bits : ℕ) → RowIn row (w .from) → Sure w (toRows m) Any c (dateEnd row bits (m .rows) c)
   unfolding dateEnd
-  sure-date row bits l = sure-yes (rowUsed (m .rows) c row) (used-row row l) (of (dateOf bits))
+  sure-date row bits l = sure-yes (rowUsed (m .rows) c row) (used-row row l) (of (refusedDate bits))
     where
-      of : (d : Date) → Sure w (toRows m) Any c (dated row bits d (m .rows) c)
-      of Undated = stops tt
-      of (Millis n) = sure-numbered row n l
+      of : (t : Bool) → Sure w (toRows m) Any c (cond t (refuse refusals.badDate bits c) (numbered row bits (m .rows) c))
+      of true = stops tt
+      of false = sure-numbered row bits l
 
   -- a row has a body
   pub sure-bodied : (row : ℕ) (s : Span) → RowIn row (w .from) → Sure w (toRows m) Any c (bodied row s (m .rows) c)

@@ -147,7 +147,7 @@ loanFault rows store strings objects traits names =
 abbrev pub faultOf : Memory → ℕ
 faultOf m = loanFault (length (m .rows)) (length (m .store)) (length (m .strings)) (length (m .objects)) (length (m .traits)) (length (m .names))
 
--- the writer is lent rows and a store
+-- rows and a store alone: lent to the writer, and to ask a row for its text or its milliseconds
 abbrev pub rowsFault : List ℕ → List ℕ → ℕ
 rowsFault R B = loanFault (length R) (length B) 0 0 0 0
 

@@ -7,8 +7,6 @@ use Rattle.rows.specs.declared.Cursor.{Cursor}
 use Rattle.rows.specs.declared.Span.{Span}
 use Rattle.rows.specs.declared.Key.{Key}
 use Rattle.rows.specs.declared.Trait.{Trait}
-use Rattle.wire.specs.declared.Date.{Date}
-use Rattle.wire.specs.declared.Date.the-variants.{Millis, Refused}
 use Rattle.format.specs.Decide as d
 use Rattle.format.specs.Decide.{Out, stop, give}
 
@@ -39,13 +37,9 @@ module _ (c : Cursor) where
   unfolding d.integerEnd
   stays-integer row w R = stays-numbered row _ R
 
-  stays-dated : (row bits : ℕ) (x : Date) (R : List ℕ) → Stays c (d.dated row bits x R c)
-  stays-dated row bits Refused R = stopped
-  stays-dated row bits (Millis n) R = stays-numbered row n R
-
   pub stays-date : (row bits : ℕ) (R : List ℕ) → Stays c (d.dateEnd row bits R c)
   unfolding d.dateEnd
-  stays-date row bits R = search (stays, stays-dated)
+  stays-date row bits R = search (stays, stays-numbered)
 
   pub stays-bodied : (row : ℕ) (p : Span) (R : List ℕ) → Stays c (d.bodied row p R c)
   unfolding d.bodied

@@ -1,32 +1,26 @@
 -- What an ended state says: told values, and how it ended.
-use mathlib.Core.Path.{_≡_, refl, sym, _∙_}
-use mathlib.Core.Bool.{Bool, true, false, cond, _&&_, _||_}
+use mathlib.Core.Path.{_≡_, refl, ap, sym, _∙_}
+use mathlib.Core.Bool.{Bool, true, false, cond, not, _&&_, _||_}
 use Prim.Native.Nat.{ℕ, _^_, _<_}
 use lib.Dec.{ltb, eqb}
 use borrow.Author.Tests.{eq-eqb, ne-eqb, lt-ltb}
-use Rattle.wire.specs.declared.Date.{Date}
-use Rattle.wire.specs.declared.Date.the-variants.{Millis, Refused}
-use Rattle.wire.specs.Date.{dateOf, refusedDate}
+use Rattle.wire.specs.Date.{refusedDate}
 use Rattle.format.specs.Codes.{statusWaiting, statusFinished, statusRefused}
 use Rattle.format.specs.declared.Head.{Head}
 use Rattle.format.specs.Numbers.{finishable}
 use Rattle.format.specs.Refusals as no
-use Rattle.format.proofs.Tests.{on-bool, clash}
+use Rattle.format.proofs.Tests.{on-bool}
 use Rattle.states.specs.Ends.{hasEnded}
 
 -- ---- bits
 
-pub bits-refused : (bits : ℕ) → bits < 2 ^ 64 → dateOf bits ≡ Refused → true ≡ (ltb bits (2 ^ 64) && refusedDate bits)
-unfolding dateOf
-bits-refused bits h e = on-bool (refusedDate bits) (λ q. rw (lt-ltb bits (2 ^ 64) h, q)) (λ q. let f = rw q at e in clash cc)
-
-pub bits-dated : (bits n : ℕ) → dateOf bits ≡ Millis n → false ≡ (ltb bits (2 ^ 64) && refusedDate bits)
-unfolding dateOf
-bits-dated bits n e = on-bool (refusedDate bits) (λ q. let f = rw q at e in clash cc) (λ q. rw q (sym (none (ltb bits (2 ^ 64)))))
+-- what the test for a date denies
+pub bits-refused : (bits : ℕ) → bits < 2 ^ 64 → {t : Bool} → t ≡ not (refusedDate bits) → not t ≡ (ltb bits (2 ^ 64) && refusedDate bits)
+bits-refused bits h {t} e = rw (lt-ltb bits (2 ^ 64) h) (ap not e ∙ twice (refusedDate bits))
   where
-    none : (t : Bool) → (t && false) ≡ false
-    none true = refl
-    none false = refl
+    twice : (t : Bool) → not (not t) ≡ t
+    twice true = refl
+    twice false = refl
 
 -- ---- numbers
 

@@ -17,7 +17,6 @@ use rows::SPAN_WIDTH;
 use rows::STORE_MOST;
 use rows::TRAIT_WIDTH;
 use rows::loans;
-use wire::Date;
 use wire::Part;
 use wire::markers;
 ghost use mathlib.Core.Path.{_≡_};
@@ -397,11 +396,7 @@ fn unknown_marker(b: usize) -> bool
 fn refused_bits(bits: usize) -> bool
     ensures { λ r. ⌜ r ≡ (ltb bits (2 ^ 64) && refusedDate bits) ⌝ }
 {
-    let d = wire::date_millis(bits);
-    match d {
-        Date::Refused => true,
-        Date::Millis(n) => false,
-    }
+    !wire::is_date(bits)
 }
 
 // What refusal `n`, which a byte decided, tells.

@@ -1,11 +1,12 @@
-// Text access: the part of the store that a row's text is, or the caller's own default.
+// What a row is asked for: its text, a part of the store, or the caller's own default; its date's milliseconds.
 
 use rows::Span;
 use rows::kinds;
+use wire::Moment;
 ghost use mathlib.Core.Path.{_≡_};
 ghost use Rattle.format.specs.RowTest.{hasText};
 ghost use Rattle.format.specs.Unfold.{home, part};
-ghost use Rattle.format.specs.Text.{textIn, textSpan, textOr};
+ghost use Rattle.format.specs.Text.{textIn, textSpan, textOr, momentIn, momentAt};
 ghost use Rattle.text.specs.Found.{foundOf, partOr};
 
 // The span of a row's text, or there is none.
@@ -104,4 +105,25 @@ pub fn text<'a>(rows: &[usize], store: &'a [u8], row: usize, default: &'a [u8]) 
     let there = has_text(rows::kind_at(rows, home));
     let body = rows::body_at(rows, home);
     part_or(store, default, there, body.begin, body.size)
+}
+
+// The milliseconds of a row that is a date.
+fn moment_in(rows: &[usize], row: usize) -> Moment
+    ensures { λ r. ⌜ r ≡ momentIn (now (rows .entry)) row ⌝ }
+{
+    if rows::kind_at(rows, row) == kinds::DATE {
+        return wire::moment_of(rows::number_at(rows, row));
+    }
+    Moment::None
+}
+
+// The milliseconds of a row's date. A reference answers as its target.
+pub fn moment(rows: &[usize], store: &[u8], row: usize) -> Moment
+    ensures { λ r. ⌜ r ≡ momentAt (now (rows .entry)) (now (store .entry)) row ⌝ }
+{
+    if rows::loan_fault(rows.len(), store.len(), 0, 0, 0, 0) != 0 {
+        return Moment::None;
+    }
+    let home = home_of(rows, row);
+    moment_in(rows, home)
 }

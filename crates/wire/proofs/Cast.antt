@@ -1,22 +1,22 @@
--- The double of 64 bits: whether it is finite, its sign, its value in units, and the whole number that it is cast to.
+-- The double of 64 bits: whether it is finite, its value in units, and the whole numbers that it is cast to.
 use mathlib.Core.Path.{_≡_, refl, ap, sym, _∙_}
 use mathlib.Core.Bool.{Bool, true, false, not, cond}
 use Prim.Native.Nat.{ℕ, zero, suc, _+_, _*_, _-_, _^_, _/_, _%_, _≤_, _<_, min}
 use native.Mathlib.Omega.{arith}
-use native.Mathlib.Nat.{mul-div-mul-right, mul-comm, mod-eq-of-lt}
-use borrow.Author.Tests.{le-leb, lt-leb, ne-eqb}
-use lib.Dec.{T, eqb}
-use lib.IntN.{ℤ}
+use native.Mathlib.Nat.{mul-div-mul-right, mul-comm}
+use borrow.Author.Tests.{lt-leb, ne-eqb}
+use lib.Dec.{T, leb, eqb}
+use lib.IntN.{ℤ, pos, negℤ}
 use lib.Pow.{pow-pos}
-use lib.Ieee.{Float, nan, inf, fin, binary64, up, down, isNan, odd, ofBits, ofFields, toUnsigned}
+use lib.Ieee.{Float, nan, inf, fin, binary64, up, down, isNan, odd, ofBits, ofFields, toUnsigned, toSigned}
 use lib.Ieee.Exact.{HasValue, odd-sign}
 use lib.Ieee.Fits.{down-pos}
-use Rattle.wire.specs.Date.{finite}
+use Rattle.wire.specs.Date.{finite, bounded}
 
 -- ---- what a value tells of the float that has it
 
 -- it is finite, with that sign, and m * 2 ^ e is a / c
-by-value : (P : Float → Type 0) (x : Float) (s : Bool) (a c : ℕ) → HasValue x s a c → ((m : ℕ) (e : ℤ) → m * up e * c ≡ a * down e → P (fin s m e)) → P x
+pub by-value : (P : Float → Type 0) (x : Float) (s : Bool) (a c : ℕ) → HasValue x s a c → ((m : ℕ) (e : ℤ) → m * up e * c ≡ a * down e → P (fin s m e)) → P x
 by-value P nan s a c v f = absurd v
 by-value P (inf t) s a c v f = absurd v
 by-value P (fin t m e) s a c v f = rw (v .0) (f m e (v .1))
@@ -29,26 +29,23 @@ pub value-not-nan : (x : Float) (s : Bool) (a c : ℕ) → HasValue x s a c → 
 unfolding isNan
 value-not-nan x s a c v = by-value (λ y. T (not (isNan y))) x s a c v (λ m e h. tt)
 
--- NaN has no value, and counts as one with its sign bit set
-pub sign : Float → Bool
-sign nan = true
-sign (inf s) = s
-sign (fin s m e) = s
-
-pub value-sign : (x : Float) (s : Bool) (a c : ℕ) → HasValue x s a c → sign x ≡ s
-unfolding sign
-value-sign x s a c v = by-value (λ y. sign y ≡ s) x s a c v (λ m e h. refl)
-
 cross : (p q a c : ℕ) → 0 < q → 0 < c → p * c ≡ a * q → p / q ≡ a / c
 cross p q a c hq hc e =
     sym (mul-div-mul-right {m = c} p q hc) ∙ ap (λ (n : ℕ). n / (q * c)) e ∙ ap (λ (n : ℕ). a * q / n) (mul-comm q c) ∙ mul-div-mul-right {m = q} a c hq
 
--- a cast cuts, and stops at the end of the range
+-- a cast cuts, and stops at the ends of the range
 value-cast : (x : Float) (a c w : ℕ) → HasValue x false a c → 0 < c → toUnsigned w x ≡ min (a / c) (2 ^ w - 1)
 unfolding toUnsigned
 value-cast x a c w v h =
     by-value (λ y. toUnsigned w y ≡ min (a / c) (2 ^ w - 1)) x false a c v
     (λ m e p. ap (λ (q : ℕ). min q (2 ^ w - 1)) (cross (m * up e) (down e) a c (down-pos e) h p))
+
+value-signed : (x : Float) (s : Bool) (a c h : ℕ) → HasValue x s a c → 0 < c
+    → toSigned h x ≡ cond s (negℤ (pos (min (a / c) (2 ^ h)))) (pos (min (a / c) (2 ^ h - 1)))
+unfolding toSigned
+value-signed x s a c h v g =
+    by-value (λ y. toSigned h y ≡ cond s (negℤ (pos (min (a / c) (2 ^ h)))) (pos (min (a / c) (2 ^ h - 1)))) x s a c v
+    (λ m e p. ap (λ (q : ℕ). cond s (negℤ (pos (min q (2 ^ h)))) (pos (min q (2 ^ h - 1)))) (cross (m * up e) (down e) a c (down-pos e) g p))
 
 -- ---- by the field x of the exponent and the digits t
 
@@ -64,41 +61,45 @@ finite-fields s zero t = value-finite (odd 53 s t 0 1074) s _ _ (odd-sign 53 s t
 finite-fields s (suc y) t =
     finite-top (eqb (suc y) 2047) (eqb t 0) s (odd 53 s (2 ^ 52 + t) y 1074) (value-finite (odd 53 s (2 ^ 52 + t) y 1074) s _ _ (odd-sign 53 s (2 ^ 52 + t) y 1074))
 
-sign-top : (p q : Bool) (v : Float) → sign v ≡ true → sign (cond p (cond q (inf true) nan) v) ≡ true
-unfolding sign
-sign-top true true v h = refl
-sign-top true false v h = refl
-sign-top false q v h = h
-
-sign-fields : (x t : ℕ) → sign (ofFields binary64 true x t) ≡ true
-unfolding ofFields
-sign-fields zero t = value-sign (odd 53 true t 0 1074) true _ _ (odd-sign 53 true t 0 1074)
-sign-fields (suc y) t =
-    sign-top (eqb (suc y) 2047) (eqb t 0) (odd 53 true (2 ^ 52 + t) y 1074) (value-sign (odd 53 true (2 ^ 52 + t) y 1074) true _ _ (odd-sign 53 true (2 ^ 52 + t) y 1074))
-
 -- the value in units of 2 ^ -1074, the smallest that a double has: a field of 0 has no leading digit, and counts as 1
 abbrev pub units : ℕ → ℕ → ℕ
 units zero t = t
 units (suc y) t = (2 ^ 52 + t) * 2 ^ y
 
-value-fields : (x t : ℕ) → x < 2047 → HasValue (ofFields binary64 false x t) false (units x t) (2 ^ 1074)
+value-fields : (s : Bool) (x t : ℕ) → x < 2047 → HasValue (ofFields binary64 s x t) s (units x t) (2 ^ 1074)
 unfolding ofFields
-value-fields zero t h = let e : t * 2 ^ 0 ≡ t = omega arith in rw e at (odd-sign 53 false t 0 1074)
-value-fields (suc y) t h = rw (ne-eqb (suc y) 2047 (λ z. omega arith)) (odd-sign 53 false (2 ^ 52 + t) y 1074)
+value-fields s zero t h = let e : t * 2 ^ 0 ≡ t = omega arith in rw e at (odd-sign 53 s t 0 1074)
+value-fields s (suc y) t h = rw (ne-eqb (suc y) 2047 (λ z. omega arith)) (odd-sign 53 s (2 ^ 52 + t) y 1074)
 
 -- ---- by the bits
 
-pub bits-sign : (b : ℕ) → 2 ^ 63 ≤ b → sign (ofBits binary64 b) ≡ true
-unfolding ofBits
-bits-sign b h = rw (le-leb (2 ^ 63) b h) (sign-fields (b % 2 ^ 63 / 2 ^ 52) (b % 2 ^ 52))
+module _ (b : ℕ) where
+  -- the field of the exponent, and the digits
+  abbrev pub field : ℕ
+  field = b % 2 ^ 63 / 2 ^ 52
 
-module _ (b : ℕ) (h : b < 2 ^ 63) where
-  fields : ofBits binary64 b ≡ ofFields binary64 false (b / 2 ^ 52) (b % 2 ^ 52)
+  abbrev pub digits : ℕ
+  digits = b % 2 ^ 52
+
+  -- the whole part of its size
+  abbrev pub whole : ℕ
+  whole = units field digits / 2 ^ 1074
+
+  fields : ofBits binary64 b ≡ ofFields binary64 (leb (2 ^ 63) b) field digits
   unfolding ofBits
-  fields = let e : b % 2 ^ 63 ≡ b = mod-eq-of-lt h in rw (lt-leb (2 ^ 63) b h, e)
+  fields = refl
 
-  pub bits-finite : finite (ofBits binary64 b) ≡ not (eqb (b / 2 ^ 52) 2047)
-  bits-finite = rw fields (finite-fields false (b / 2 ^ 52) (b % 2 ^ 52))
+  pub bits-finite : finite (ofBits binary64 b) ≡ not (eqb field 2047)
+  bits-finite = rw fields (finite-fields (leb (2 ^ 63) b) field digits)
 
-  pub bits-cast : b / 2 ^ 52 < 2047 → toUnsigned 64 (ofBits binary64 b) ≡ min (units (b / 2 ^ 52) (b % 2 ^ 52) / 2 ^ 1074) (2 ^ 64 - 1)
-  bits-cast l = rw fields (value-cast (ofFields binary64 false (b / 2 ^ 52) (b % 2 ^ 52)) (units (b / 2 ^ 52) (b % 2 ^ 52)) (2 ^ 1074) 64 (value-fields (b / 2 ^ 52) (b % 2 ^ 52) l) (pow-pos 1074))
+  module _ (l : field < 2047) where
+    pub bits-value : HasValue (ofBits binary64 b) (leb (2 ^ 63) b) (units field digits) (2 ^ 1074)
+    bits-value = rw fields (value-fields (leb (2 ^ 63) b) field digits l)
+
+    pub bits-cast : b < 2 ^ 63 → toUnsigned 64 (ofBits binary64 b) ≡ min whole (2 ^ 64 - 1)
+    bits-cast h =
+        let v : HasValue (ofBits binary64 b) false (units field digits) (2 ^ 1074) = rw (lt-leb (2 ^ 63) b h) at bits-value in
+        value-cast (ofBits binary64 b) (units field digits) (2 ^ 1074) 64 v (pow-pos 1074)
+
+    pub bits-signed : toSigned 63 (ofBits binary64 b) ≡ bounded (leb (2 ^ 63) b) whole
+    bits-signed = value-signed (ofBits binary64 b) (leb (2 ^ 63) b) (units field digits) (2 ^ 1074) 63 bits-value (pow-pos 1074)

@@ -1,17 +1,18 @@
 -- The sign rule's steps in an i64, as the code takes them.
 use mathlib.Core.Path.{_≡_, refl, ap, sym, _∙_}
-use mathlib.Core.Bool.{true, false}
+use mathlib.Core.Bool.{Bool, true, false}
 use Prim.Native.Nat.{ℕ, zero, suc, _+_, _-_, _^_, _%_, _≤_, _<_}
 use native.Mathlib.Omega.{arith}
-use native.Mathlib.Nat.{mod-lt}
-use borrow.Author.Tests.{le-ltb, ltb-true, ltb-false}
+use native.Mathlib.Nat.{mod-lt, min-eq-left, min-eq-right}
+use borrow.Author.Tests.{le-ltb, lt-ltb, ltb-true, ltb-false}
 use mir.Facts.{toZ-ofZ, toZ-pos}
 use mir.Syntax.{w64}
 use mir.Val.{toZ, ofZ, Fits, SFits}
 use lib.Dec.{T, lit<}
-use lib.IntN.{ℤ, pos, negsuc, natAbs, _+ℤ_, _-ℤ_}
+use lib.IntN.{ℤ, pos, negsuc, negℤ, natAbs, _+ℤ_, _-ℤ_}
 use lib.Signed.{mag, ltZ, nonNeg}
 use Rattle.wire.specs.Sign.{residue, bitsAt, integerOf, bitsOf, columnOf, ofColumn}
+use Rattle.wire.specs.Date.{bounded}
 use Rattle.wire.specs.declared.Bits.the-variants.{Outside}
 use Rattle.wire.proofs.Sign.{residue-turn, bits-low, bits-high, signed-low, signed-high, bits-outside, integer-remainder, column-remainder}
 
@@ -63,6 +64,10 @@ from-negative n = simp (le-ltb (suc n) 1 (omega arith)) (ap pos (omega arith))
 from-natural : (n : ℕ) → negsuc 0 -ℤ pos n ≡ negsuc n
 from-natural zero = refl
 from-natural (suc n) = ap negsuc (omega arith)
+
+from-zero : (n : ℕ) → pos 0 -ℤ pos n ≡ negℤ (pos n)
+from-zero zero = refl
+from-zero (suc n) = let e : suc n - 1 ≡ n = omega arith in simp (lt-ltb 0 (suc n) (omega arith)) (ap negsuc e)
 
 -- 2 ^ 29 is added, whatever the sign: the sum is not negative, and has the same remainder
 abbrev pub raised : ℤ → ℕ
@@ -139,3 +144,27 @@ module _ (x : ℕ) where
 
   pub column-fits : x < 2 ^ 64 → mag (ofColumn x) < 2 ^ 63
   column-fits l = column-remainder x l .0
+
+mag-opposite : (n : ℕ) → n < 2 ^ 63 → mag (negℤ (pos n)) < 2 ^ 63
+mag-opposite zero l = lit< tt
+mag-opposite (suc n) l = omega arith
+
+-- a whole part with its sign: within the range it is cast, and taken from 0 where it is negative; past it an end stands for it
+module _ (n : ℕ) where
+  pub opposite : n < 2 ^ 63 → toZ w64 0 -ℤ toZ w64 n ≡ negℤ (pos n)
+  opposite l = rw (toZ-pos w64 {n = n} l) (from-zero n)
+
+  pub opposite-fits : n < 2 ^ 63 → mag (negℤ (pos n)) < 2 ^ 63
+  opposite-fits l = mag-opposite n l
+
+  pub held-below : (s : Bool) → s ≡ true → n < 2 ^ 63 → bounded s n ≡ negℤ (pos n)
+  held-below s e l = rw e (ap (λ (k : ℕ). negℤ (pos k)) (min-eq-left {n = n} {m = 2 ^ 63} (omega arith)))
+
+  pub held-above : (s : Bool) → s ≡ false → n < 2 ^ 63 → bounded s n ≡ toZ w64 n
+  held-above s e l = rw (e, toZ-pos w64 {n = n} l) (ap pos (min-eq-left {n = n} {m = 2 ^ 63 - 1} (omega arith)))
+
+  pub held-first : (s : Bool) → s ≡ true → 2 ^ 63 ≤ n → bounded s n ≡ negsuc (2 ^ 63 - 1)
+  held-first s e l = rw e (ap (λ (k : ℕ). negℤ (pos k)) (min-eq-right l))
+
+  pub held-last : (s : Bool) → s ≡ false → 2 ^ 63 ≤ n → bounded s n ≡ pos (2 ^ 63 - 1)
+  held-last s e l = rw e (let k : 2 ^ 63 - 1 ≤ n = omega arith in ap pos (min-eq-right k))

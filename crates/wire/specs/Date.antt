@@ -1,13 +1,10 @@
--- Dates: a double's 64 bits on the wire, whole milliseconds in a row.
-use mathlib.Core.Bool.{Bool, true, false, cond, not, _||_}
-use Prim.Native.Nat.{ℕ, _^_}
-use lib.Dec.{leb}
-use lib.IntN.{pos}
-use lib.Ieee.{Float, nan, inf, fin, binary64, ofBits, toBits, ofInt, toUnsigned}
-use Rattle.wire.specs.declared.Date.{Date}
-use Rattle.wire.specs.declared.Date.the-variants.{Millis, Refused}
-use Rattle.wire.specs.declared.Bits.{Bits}
-use Rattle.wire.specs.declared.Bits.the-variants.{Of, Outside}
+-- Dates: a double's 64 bits, on the wire and in a row; milliseconds where they are asked for.
+use mathlib.Core.Bool.{Bool, true, false, cond, not}
+use Prim.Native.Nat.{ℕ, _-_, _^_, min}
+use lib.IntN.{ℤ, pos, negℤ}
+use lib.Ieee.{Float, nan, inf, fin, binary64, ofBits, toSigned}
+use Rattle.wire.specs.declared.Moment.{Moment}
+use Rattle.wire.specs.declared.Moment.the-variants.{None, At}
 
 -- neither NaN nor infinite
 unfoldable pub finite : Float → Bool
@@ -15,14 +12,14 @@ finite nan = false
 finite (inf s) = false
 finite (fin s m e) = true
 
--- refusal 7: NaN, infinite, or sign bit set
+-- the bits of NaN or of an infinity: 7 in a message, 14 in a row to be written
 unfoldable pub refusedDate : ℕ → Bool
-refusedDate b = leb (2 ^ 63) b || not (finite (ofBits binary64 b))
+refusedDate b = not (finite (ofBits binary64 b))
 
--- cut to whole milliseconds; at 2 ^ 64 or more 2 ^ 64 - 1
-unfoldable pub dateOf : ℕ → Date
-dateOf b = cond (refusedDate b) Refused (Millis (toUnsigned 64 (ofBits binary64 b)))
+-- milliseconds: cut towards zero, held at -2 ^ 63 and at 2 ^ 63 - 1
+unfoldable pub momentOf : ℕ → Moment
+momentOf b = cond (refusedDate b) None (At (toSigned 63 (ofBits binary64 b)))
 
--- the bits of whole milliseconds, up to 2 ^ 53
-unfoldable pub dateBits : ℕ → Bits
-dateBits ms = cond (leb ms (2 ^ 53)) (Of (toBits binary64 (ofInt binary64 (pos ms)))) Outside
+-- a whole part with its sign, held at the same ends
+abbrev pub bounded : Bool → ℕ → ℤ
+bounded negative n = cond negative (negℤ (pos (min n (2 ^ 63)))) (pos (min n (2 ^ 63 - 1)))

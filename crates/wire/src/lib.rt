@@ -4,8 +4,8 @@
 pub mod markers;
 
 ghost use mathlib.Core.Path.{_≡_};
-ghost use mathlib.Core.Bool.{false};
-ghost use Prim.Native.Nat.{_+_, _≤_, _<_};
+ghost use mathlib.Core.Bool.{false, not};
+ghost use Prim.Native.Nat.{_+_, _≤_, _<_, _^_};
 ghost use lib.Dec.{leb};
 ghost use lib.Ieee.{binary64, ofBits, toUnsigned};
 ghost use lib.ListN.{length};
@@ -15,7 +15,7 @@ ghost use Rattle.wire.specs.U29.{partOf, u29At, moreOf, formOf, u29};
 ghost use Rattle.wire.specs.Word.{sizeOf, shapeOf};
 ghost use Rattle.wire.specs.Sign.{integerOf, bitsOf, columnOf, ofColumn};
 ghost use Rattle.wire.specs.Big.{numberAt, digitOf, bytesOf};
-ghost use Rattle.wire.specs.Date.{refusedDate, dateOf, dateBits};
+ghost use Rattle.wire.specs.Date.{refusedDate, momentOf, bounded};
 
 // A number read at a place, with the place behind it.
 pub enum Read {
@@ -331,18 +331,41 @@ pub fn put_be32(out: &mut [u8], at: usize, n: usize) -> Put
 
 // ---- dates
 
-// Whole milliseconds, or bits that no date has (7).
-pub enum Date {
-    Millis(usize),
-    Refused,
+// Milliseconds, or bits that no date has.
+pub enum Moment {
+    None,
+    At(i64),
 }
 
-fn millis(bits: usize) -> usize
-    requires { ⌜ refusedDate bits ≡ false ⌝ }
-    ensures { λ r. ⌜ r ≡ toUnsigned 64 (ofBits binary64 bits) ⌝ }
+// A double's sign bit, and the bits of its size.
+const SIGN: usize = 0x8000_0000_0000_0000;
+
+const SIZE: usize = 0x7fff_ffff_ffff_ffff;
+
+// The size of an infinity; those of NaN are larger.
+const INFINITE: usize = 0x7ff0_0000_0000_0000;
+
+// The ends of the milliseconds' range, and the first whole part past it.
+const EARLIEST: i64 = -0x8000_0000_0000_0000;
+
+const LATEST: i64 = 0x7fff_ffff_ffff_ffff;
+
+const PAST: usize = 0x8000_0000_0000_0000;
+
+// Whether the bits are a date's: those of NaN and the infinities are none.
+pub fn is_date(bits: usize) -> bool
+    ensures { λ r. ⌜ r ≡ not (refusedDate bits) ⌝ }
 {
-    let e = bits >> 52usize;
-    let m = (bits & 0xf_ffff_ffff_ffff) | 0x10_0000_0000_0000;
+    bits & SIZE < INFINITE
+}
+
+// The whole part of a double without a sign, at most 2^64 - 1.
+fn whole_part(size: usize) -> usize
+    requires { ⌜ (size < 2 ^ 63) × (refusedDate size ≡ false) ⌝ }
+    ensures { λ r. ⌜ r ≡ toUnsigned 64 (ofBits binary64 size) ⌝ }
+{
+    let e = size >> 52usize;
+    let m = (size & 0xf_ffff_ffff_ffff) | 0x10_0000_0000_0000;
     if e < 1023 {
         return 0;
     }
@@ -355,24 +378,29 @@ fn millis(bits: usize) -> usize
     0xffff_ffff_ffff_ffff
 }
 
-// The milliseconds of a double: NaN, the infinities and all with the sign bit set have the largest bits.
-pub fn date_millis(bits: usize) -> Date
-    ensures { λ r. ⌜ r ≡ dateOf bits ⌝ }
+// A whole part with its sign, held at the ends of the range.
+fn signed(negative: bool, whole: usize) -> i64
+    ensures { λ r. ⌜ r ≡ bounded negative whole ⌝ }
 {
-    if 0x7ff0_0000_0000_0000 <= bits {
-        return Date::Refused;
+    if whole < PAST {
+        if negative {
+            return -(whole as i64);
+        }
+        return whole as i64;
     }
-    Date::Millis(millis(bits))
+    if negative {
+        return EARLIEST;
+    }
+    LATEST
 }
 
-// The double's bits of whole milliseconds.
-pub fn date_bits(ms: usize) -> Bits
-    ensures { λ r. ⌜ r ≡ dateBits ms ⌝ }
+// The milliseconds of a date's bits: by shifts, then the sign.
+pub fn moment_of(bits: usize) -> Moment
+    ensures { λ r. ⌜ r ≡ momentOf bits ⌝ }
 {
-    if 0x20_0000_0000_0000 < ms {
-        return Bits::Outside;
+    if is_date(bits) {
+        let whole = whole_part(bits & SIZE);
+        return Moment::At(signed(SIGN <= bits, whole));
     }
-    let x = ms as f64;
-    let b = f64::to_bits(x);
-    Bits::Of(b as usize)
+    Moment::None
 }

@@ -4,12 +4,12 @@ use mathlib.Core.Bool.{Bool, true, false, cond}
 use mathlib.Core.List.{List, [], _∷_}
 use Prim.Native.Nat.{ℕ, suc, _+_, _*_, _^_, _<_, _≤_}
 use native.Mathlib.Omega.{arith}
-use borrow.Author.Tests.{ltb-true, leb-true}
+use borrow.Author.Tests.{ltb-true}
 use lib.Dec.{ltb}
 use lib.ListN.{getD}
 use lib.Signed.{mag}
 use Rattle.rows.specs.Memory.{rowWidth, memory, colKind, colNumber, colCount, colCount2, colEnd, rowsIn, col}
-use Rattle.rows.specs.Kinds.{kindInteger, kindDate, kindArray, kindObject, kindObjectVector, kindDictionary}
+use Rattle.rows.specs.Kinds.{kindInteger, kindArray, kindObject, kindObjectVector, kindDictionary}
 use Rattle.wire.specs.Sign.{ofColumn}
 use Rattle.format.specs.RowTest.{hasCount2, children, numberWritable}
 use Rattle.format.proofs.Tested.{Row, tested-rows, walk-long}
@@ -64,12 +64,6 @@ module _ {R B : List ℕ} (fit : Fit R B) (j : ℕ) where
     integer-small h =
         let i = kinded e h in
         rw g (column-small (col R j colNumber) (rw i at (row (omega arith) .number)))
-
-    pub date-small : k ≡ kindDate → n ≤ 2 ^ 53
-    unfolding numberWritable
-    date-small h =
-        let i = kinded e h in
-        rw g (leb-true (col R j colNumber) (2 ^ 53) (rw i at (row (omega arith) .number)))
 
   -- the values in a row are other rows
   few : 0 < col R j colKind → suc j + children R j ≤ rowsMost

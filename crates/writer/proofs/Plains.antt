@@ -5,20 +5,15 @@ use mathlib.Core.List.{List, [], _∷_, _++_}
 use Prim.Native.Nat.{ℕ, _+_, _/_, _^_, _<_, _≤_}
 use native.Mathlib.Omega.{arith}
 use lib.Dec.{eqb}
-use lib.IntN.{pos}
-use lib.Ieee.{binary64, ofInt, toBits}
 use lib.ListN.{length}
 use lib.Signed.{mag}
 use Rattle.rows.specs.Memory.{colKind, colFlag, colNumber, col}
 use Rattle.rows.specs.Kinds as kinds
 use Rattle.wire.specs.declared.Bits.{Bits}
 use Rattle.wire.specs.declared.Bits.the-variants as bits
-use Rattle.wire.specs.U29.{u29, moreOf, groups}
-use Rattle.wire.specs.Big as big
+use Rattle.wire.specs.U29.{u29}
 use Rattle.wire.specs.Sign.{ofColumn, bitsOf}
-use Rattle.wire.specs.Date.{dateBits}
 use Rattle.wire.proofs.Sign as sign
-use Rattle.wire.proofs.Dates as dates
 use Rattle.format.specs.Standard.{Tree, boolean, integer, double, date, textBytes, sizeBytes, flagByte, encodePlain}
 use Rattle.format.specs.Unfold.{bodyOf, node}
 use Rattle.format.specs.Writing.{Stream, these, emitIn}
@@ -36,15 +31,6 @@ module _ (n : ℕ) {b : Bits} (g : b ≡ bitsOf (ofColumn n)) (l : mag (ofColumn
   pub integer-bytes : {k : ℕ} → b ≡ bits.Of k → 0x04 ∷ u29 k ≡ encodePlain (integer (ofColumn n))
   unfolding encodePlain
   integer-bytes {k} h = let q : bitsOf (ofColumn n) ≡ bits.Of k = cc in rw (sign.has-bits (ofColumn n) k q .1)
-
-module _ (n : ℕ) {b : Bits} (g : b ≡ dateBits n) (l : n ≤ 2 ^ 53) where
-  pub date-in : b ≡ bits.Outside → ⊥
-  date-in h = let q = dates.bits-of n l in clash (cc)
-
-  -- a date has no length
-  pub date-bytes : {k : ℕ} → b ≡ bits.Of k → (0x08 ∷ u29 1) ++ big.bytesOf 8 k ≡ encodePlain (date n)
-  unfolding encodePlain u29 moreOf groups
-  date-bytes {k} h = let q = dates.bits-of n l in let p : toBits binary64 (ofInt binary64 (pos n)) ≡ k = cc in rw (← p)
 
 -- ---- by the kind k
 

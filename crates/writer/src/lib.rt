@@ -228,21 +228,13 @@ fn put_double(out: &mut [u8], at: usize, number: usize, dry: bool) -> Put
 }
 
 fn put_date(out: &mut [u8], at: usize, number: usize, dry: bool) -> Put
-    requires { ⌜ number ≤ 2 ^ 53 ⌝ }
     ensures { λ r. ⌜ ran r (now (out .exit)) ≡ run dry (these (encodePlain (date number))) at (now (out .entry)) ⌝ }
 {
-    let bits = wire::date_bits(number);
-    let wire::Bits::Of(n) = bits else {
-        return Put::Stop {
-            no: refusals::NO_ROOM,
-            place: at,
-        };
-    };
     let a = put_head(out, at, markers::DATE, NEW, dry);
     let Put::At(next) = a else {
         return a;
     };
-    put_eight(out, next, n, dry)
+    put_eight(out, next, number, dry)
 }
 
 // A vector of numbers, `width` bytes to each.

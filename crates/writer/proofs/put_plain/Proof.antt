@@ -1,5 +1,5 @@
 -- Made by proofs.py from answers/put_plain.txt: change that file, not this one.
--- answers 009434877064 proof 4441589aa3ba
+-- answers 12ac07ee0761 proof 380f5e454197
 use Rattle.writer.proofs.Streams as streams
 use Rattle.writer.proofs.Columns as columns
 use Rattle.writer.proofs.Bounds as bounds
@@ -60,11 +60,7 @@ put-marked-requires-2 : tie.Need-put-marked-requires-2
 put-marked-requires-2 c κs = search needs
 
 put-date-requires : tie.Need-put-date-requires
-put-date-requires c κs =
-    let b5 = c .before .before .before .before .before in
-    let b6 = b5 .before in
-    let b10 = b6 .before .before .before .before in
-    bounds.date-small (b10 .pre .fit) _ (b6 .kind-at .ensures) (b5 .number-at .ensures) (c .before .match .keys7)
+put-date-requires c κs = search needs
 
 put-marked-requires-3 : tie.Need-put-marked-requires-3
 put-marked-requires-3 c κs = search needs
