@@ -1,4 +1,4 @@
-/* What the tests in C share: the six loans with a guard behind each, answers, states and loans compared number by number, and the tally. A program that
+/* What the tests in C share: the six loans with a guard behind each, answers, states and loans compared number by number, draws, and the tally. A program that
  * includes it says before that how much it lends at most: MOST_NUMBERS of one loan, and MOST_BYTES of the store. */
 #ifndef LENT_H
 #define LENT_H
@@ -80,6 +80,16 @@ static inline void count(int right) {
 static inline int tally(void) {
     printf("%zu passed, %zu failed\n", passed, failed);
     return failed != 0;
+}
+
+/* ---- draws, the same in every run */
+
+/* The next number of a seed, by splitmix64. */
+static inline uint64_t next_draw(uint64_t *seed) {
+    uint64_t x = *seed += 0x9e3779b97f4a7c15;
+    x = (x ^ x >> 30) * 0xbf58476d1ce4e5b9;
+    x = (x ^ x >> 27) * 0x94d049bb133111eb;
+    return x ^ x >> 31;
 }
 
 /* ---- loans */
@@ -171,6 +181,13 @@ static inline int answer_is(pb_answer got, pb_answer want) {
     for (size_t i = 0; i < sizeof names / sizeof *names; i++)
         if (g[i] != w[i]) return wrong("the answer's %s is %zx, not %zx", names[i], g[i], w[i]);
     return 1;
+}
+
+/* ---- milliseconds */
+
+static inline int millis_are(pb_moment got, pb_moment want) {
+    if (got.found != want.found) return wrong("the date's found is %zx, not %zx", got.found, want.found);
+    return got.millis == want.millis || wrong("the date's millis is %zx, not %zx", (size_t)got.millis, (size_t)want.millis);
 }
 
 /* ---- states */

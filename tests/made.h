@@ -38,7 +38,11 @@ enum { STAR = 0, TEXTS = sizeof texts / sizeof *texts, NONEMPTY = TEXTS - 1 };
 
 static const int64_t integers[] = {0, 1, -1, 0x7f, 0x80, 0x3fff, 0x4000, 0x1fffff, 0x200000, 0xfffffff, -0x10000000};
 static const uint64_t doubles[] = {0, 1, 0x8000000000000000, 0x3ff0000000000000, 0x7ff0000000000000, 0x7ff8000000000000, 0x7ff8000000000001};
-static const uint64_t dates[] = {0, 1, 1700000000000, ((uint64_t)1 << 53) - 1, (uint64_t)1 << 53};
+
+/* The bits of dates. With both signs: zero, the smallest, one and a half, a day of 2023 (so one of 1916), 2^63, the largest. And 2^53 + 2. */
+static const uint64_t dates[] = {0x0000000000000000, 0x8000000000000000, 0x0000000000000001, 0x8000000000000001, 0x3ff8000000000000,
+                                 0xbff8000000000000, 0x4278bcfe56800000, 0xc278bcfe56800000, 0x4340000000000001, 0x43e0000000000000,
+                                 0xc3e0000000000000, 0x7fefffffffffffff, 0xffefffffffffffff};
 
 static int same_text(const size_t *a, const size_t *b) { return a[1] == b[1] && !memcmp(pool + a[0], pool + b[0], a[1]); }
 
@@ -68,13 +72,8 @@ static const size_t nested[] = {PB_ARRAY, PB_OBJECT, PB_OBJECT_VECTOR, PB_DICTIO
 static uint64_t seed;
 static size_t drawn, other_draw;
 
-/* A number below a limit, by splitmix64. One draw can be another than its seed gives. */
-static size_t draw(size_t below) {
-    uint64_t x = seed += 0x9e3779b97f4a7c15;
-    x = (x ^ x >> 30) * 0xbf58476d1ce4e5b9;
-    x = (x ^ x >> 27) * 0x94d049bb133111eb;
-    return ((x ^ x >> 31) % below + (++drawn == other_draw)) % below;
-}
+/* A number below a limit. One draw can be another than its seed gives. */
+static size_t draw(size_t below) { return (next_draw(&seed) % below + (++drawn == other_draw)) % below; }
 
 #define ONE_OF(list) ((list)[draw(sizeof(list) / sizeof *(list))])
 
@@ -205,16 +204,13 @@ static const size_t *put_values(const size_t *row, size_t n, int pairs) {
 static void put_value(const size_t *row) {
     const size_t *body = row + PB_BODY_BEGIN, *inner = row + PB_ROW_WIDTH, kind = row[PB_KIND], n = row[PB_COUNT], n_2 = row[PB_COUNT_2];
     size_t i = kind > PB_STRING ? entry_of(&message.objects, same_object, row) : NONE;
-    double date = (double)row[PB_NUMBER];
-    uint64_t bits = row[PB_NUMBER];
-    if (kind == PB_DATE) memcpy(&bits, &date, sizeof bits);
     message.rows++;
     put(kind <= PB_BOOLEAN ? kind - 1 + row[PB_NUMBER] : kind);
     if (i != NONE) put_word(i << 1);
     if (i != NONE) return;
-    if (kind == PB_INTEGER) put_word(bits & (((size_t)1 << WORD_BITS) - 1));
+    if (kind == PB_INTEGER) put_word(row[PB_NUMBER] & (((size_t)1 << WORD_BITS) - 1));
     if (kind == PB_DATE) put_size(0);
-    for (int shift = 64; (kind == PB_DATE || kind == PB_DOUBLE) && shift > 0; shift -= 8) put(bits >> (shift - 8));
+    for (int shift = 64; (kind == PB_DATE || kind == PB_DOUBLE) && shift > 0; shift -= 8) put(row[PB_NUMBER] >> (shift - 8));
     if (kind == PB_STRING) put_text(body);
     if (kind == PB_XML_DOCUMENT || kind == PB_XML || kind == PB_BYTE_ARRAY) put_size(body[1]), put_bytes(body);
     if (kind == PB_ARRAY) put_size(n_2), put_values(put_values(inner, n, 1), n_2, 0);

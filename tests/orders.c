@@ -26,7 +26,7 @@ typedef struct {
 
 static const struct {
     size_t length, used, rows[3][PB_ROW_WIDTH];
-    uint8_t bytes[9];
+    uint8_t bytes[10];
 } examples[] = {
     {1, 1, {{[PB_KIND] = PB_NULL, [PB_END] = 1}}, {0x01}},
     {9, 3, {{[PB_KIND] = PB_ARRAY, [PB_COUNT_2] = 2, [PB_END] = 3},
@@ -42,6 +42,9 @@ static const struct {
     {3, 1, {{[PB_KIND] = PB_STRING, [PB_BODY_LENGTH] = 1, [PB_END] = 1}}, {0x06, 0x03, 'a'}},
     {3, 1, {{[PB_KIND] = PB_INT_VECTOR, [PB_FLAG] = 1, [PB_END] = 1}}, {0x0d, 0x01, 0x01}},
     {3, 1, {{[PB_KIND] = PB_INT_VECTOR, [PB_END] = 1}}, {0x0d, 0x01, 0x00}},
+    {10, 1, {{[PB_KIND] = PB_DATE, [PB_END] = 1}}, {0x08, 0x01}},
+    {10, 1, {{[PB_KIND] = PB_DATE, [PB_NUMBER] = 0x8000000000000000, [PB_END] = 1}}, {0x08, 0x01, 0x80}},
+    {10, 1, {{[PB_KIND] = PB_DATE, [PB_NUMBER] = 0xbfe0000000000000, [PB_END] = 1}}, {0x08, 0x01, 0xbf, 0xe0}},
 };
 
 enum { EXAMPLES = sizeof examples / sizeof *examples, MADE = 300, ORDERS = EXAMPLES + MADE };

@@ -1,5 +1,6 @@
 /* Goes through the refusals of a reading that want more than the lists of tests/lists can lend, on both sides of each edge: 1; 11; and 12 for loans that are
- * lent with other lengths than at the beginning. Also 12 for a state that was never begun, and for one that waits but holds other numbers. Run:
+ * lent with other lengths than at the beginning. Also 12 for a state that was never begun, for one that says 7 of a finite date, and for one that waits but
+ * holds other numbers. Run:
  *
  *     rt staticlib pinebuckle
  *     gcc -std=c99 -Wall -Wextra -Werror -O1 -Iinclude -o target/refusals tests/refusals.c target/staticlib/libpinebuckle.a && target/refusals
@@ -326,7 +327,7 @@ static const struct {
     {"an integer", 5, 1, 0, {0x04, 0xff, 0xff, 0xff, 0xff}},
     {"a double", 9, 1, 0, {0x05, 1, 2, 3, 4, 5, 6, 7, 8}},
     {"a string", 4, 1, 2, {0x06, 0x05, 'h', 'i'}},
-    {"a date", 10, 1, 0, {0x08, 0x01, 0x40, 2, 3, 4, 5, 6, 7, 8}},
+    {"a date", 10, 1, 0, {0x08, 0x01, 0xc0, 2, 3, 4, 5, 6, 7, 8}},
     {"an array", 7, 3, 1, {0x09, 0x03, 0x03, 'k', 0x02, NO_KEY, 0x03}},
     {"an object", 11, 3, 3, {0x0a, 0x1b, 0x03, 'C', 0x03, 'n', 0x02, 0x03, 'k', 0x03, NO_KEY}},
     {"an XML", 4, 1, 2, {0x0b, 0x05, 'h', 'i'}},
@@ -400,6 +401,28 @@ static void try_never_begun(void) {
         start.state[STATUS] = marks[i][0];
         start.state[NUMBER] = marks[i][1];
         count(waits && never_begun());
+    }
+}
+
+/* The start says 7 of a date's bits. */
+static int says_bad_date(uint64_t bits, size_t place) {
+    if (!wait_in_string()) return 0;
+    set_refused(start.state, refused(PB_BAD_DATE, bits, place));
+    return 1;
+}
+
+/* Of a date that isn't finite the start says it again; of one that is, it was never begun. */
+static void try_told_dates(void) {
+    enum { PLACE_OF_DATE = 10 };
+    static const uint64_t not_finite[] = {0x7ff0000000000000, 0x7ff0000000000001, 0x7fffffffffffffff, 0xfff0000000000000, 0xfff8000000000000, 0xffffffffffffffff};
+    static const uint64_t finite[] = {0, 1, 0x3ff0000000000000, 0x7fefffffffffffff, 0x8000000000000000, 0xbff0000000000000, 0xffefffffffffffff};
+    for (size_t i = 0; i < sizeof not_finite / sizeof *not_finite; i++) {
+        about("no 12, a state that says 7 of %016zx", (size_t)not_finite[i]);
+        count(says_bad_date(not_finite[i], PLACE_OF_DATE) && repeats(few, &start, refused(PB_BAD_DATE, not_finite[i], PLACE_OF_DATE)));
+    }
+    for (size_t i = 0; i < sizeof finite / sizeof *finite; i++) {
+        about("12, a state that says 7 of %016zx", (size_t)finite[i]);
+        count(says_bad_date(finite[i], PLACE_OF_DATE) && never_begun());
     }
 }
 
@@ -508,6 +531,7 @@ int main(void) {
     try_long_message();
     try_items();
     try_never_begun();
+    try_told_dates();
     try_waiting_lost();
     try_class_lengths();
     for (int loan = 0; loan < LOANS; loan++) try_lengths(loan);

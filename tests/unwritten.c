@@ -1,4 +1,4 @@
-/* Goes through the refusals of a writing that the lists of tests/lists don't have, 1 and 9, on both sides of each edge. Run:
+/* Goes through the refusals of a writing that the lists of tests/lists don't have, 1, 9 and, of dates, 14, on both sides of each edge. Run:
  *
  *     rt staticlib pinebuckle
  *     gcc -std=c99 -Wall -Wextra -Werror -O1 -Iinclude -o target/unwritten tests/unwritten.c target/staticlib/libpinebuckle.a && target/unwritten
@@ -15,8 +15,8 @@ enum { MOST_NUMBERS = (PB_ROWS_MOST + 1) * PB_ROW_WIDTH, MOST_BYTES = PB_STORE_M
 /* The loan that is told of the output, the values that may be open at once, the bytes of an array around its only item, and room for all that is written. */
 enum { OUTPUT_LOAN = 7, OPEN_MOST = 64, AROUND = 3, ROOM = 2 * PB_ROWS_MOST };
 
-/* The markers that are used here, and the key that ends an array's pairs. */
-enum { NULL_MARKER = 0x01, ARRAY_MARKER = 0x09, NO_KEY = 0x01 };
+/* The markers that are used here, the key that ends an array's pairs, and the word of a date. */
+enum { NULL_MARKER = 0x01, DATE_MARKER = 0x08, ARRAY_MARKER = 0x09, NO_KEY = 0x01, DATE_WORD = 0x01 };
 
 /* What is given, rows and a store, and the bytes that it is to give. */
 static loans tree;
@@ -142,10 +142,74 @@ static void try_reference(void) {
     count(write_right(ROWS * PB_ROW_WIDTH, 0, ROOM, refused(PB_TOO_DEEP, 0, (1 + FIRST + SECOND + UNFOLDED) * AROUND)));
 }
 
+/* ---- 14: a date that isn't finite */
+
+/* The bits of dates that are written, and of those that aren't, up to each other. Among the first is 2^53 + 1, a number near 0 by its bits. */
+static const uint64_t finite[] = {0x0000000000000000, 0x8000000000000000, 0x0000000000000001, 0x8000000000000001, 0x0020000000000001,
+                                  0x433fffffffffffff, 0x4340000000000000, 0x4340000000000001, 0x7fefffffffffffff, 0xffefffffffffffff};
+static const uint64_t not_finite[] = {0x7ff0000000000000, 0x7ff0000000000001, 0x7ff8000000000000, 0x7fffffffffffffff,
+                                      0xfff0000000000000, 0xfff0000000000001, 0xfff8000000000000, 0xffffffffffffffff};
+
+/* The rows of an array of two dates. */
+enum { FIRST_DATE = 1, SECOND_DATE, DATE_ROWS };
+
+static void set_date(size_t row, uint64_t bits) {
+    set_row(row, PB_DATE, 0, row + 1);
+    row_of(&tree, row)[PB_NUMBER] = bits;
+    put(DATE_MARKER);
+    put(DATE_WORD);
+    for (int shift = 56; shift >= 0; shift -= 8) put(bits >> shift);
+}
+
+/* The array, and its bytes. */
+static void grow_dates(uint64_t first, uint64_t second) {
+    enum { ITEMS = DATE_ROWS - FIRST_DATE };
+    memset(&tree, 0, sizeof tree);
+    length = 0;
+    set_row(0, PB_ARRAY, ITEMS, DATE_ROWS);
+    put(ARRAY_MARKER);
+    put(ITEMS << 1 | 1);
+    put(NO_KEY);
+    set_date(FIRST_DATE, first);
+    set_date(SECOND_DATE, second);
+}
+
+static int dates_unwritten(size_t room, size_t row) { return write_right(DATE_ROWS * PB_ROW_WIDTH, 0, room, refused(PB_UNWRITABLE, row, 0)); }
+
+static void try_finite(uint64_t bits) {
+    grow_dates(bits, 0);
+    about("14, a date %016zx written", (size_t)bits);
+    count(write_right(DATE_ROWS * PB_ROW_WIDTH, 0, ROOM, finished(0, length, 0)));
+    about("14, a date %016zx with a byte less of room", (size_t)bits);
+    count(write_right(DATE_ROWS * PB_ROW_WIDTH, 0, length - 1, refused(PB_NO_ROOM, OUTPUT_LOAN, length - 1)));
+}
+
+/* The first such row is told, whatever the room. What 13 finds in the same row comes before it, and what it finds in a later one behind it. */
+static void try_not_finite(uint64_t bits) {
+    grow_dates(0, bits);
+    about("14, a date %016zx behind another", (size_t)bits);
+    count(dates_unwritten(ROOM, SECOND_DATE) && dates_unwritten(0, SECOND_DATE));
+    grow_dates(bits, bits);
+    about("14, a date %016zx twice", (size_t)bits);
+    count(dates_unwritten(ROOM, FIRST_DATE));
+    row_of(&tree, SECOND_DATE)[PB_KIND] = 0;
+    about("14, a date %016zx before a row of no kind", (size_t)bits);
+    count(dates_unwritten(ROOM, FIRST_DATE));
+    row_of(&tree, FIRST_DATE)[PB_KEY_MARK] = 1;
+    about("13, a date %016zx with a key", (size_t)bits);
+    count(write_right(DATE_ROWS * PB_ROW_WIDTH, 0, ROOM, refused(PB_MALFORMED, FIRST_DATE, 0)));
+}
+
+static void try_dates(void) {
+    for (size_t i = 0; i < sizeof finite / sizeof *finite; i++) try_finite(finite[i]);
+    for (size_t i = 0; i < sizeof not_finite / sizeof *not_finite; i++) try_not_finite(not_finite[i]);
+}
+
 int main(void) {
     try_given();
     try_most_given();
     try_nests();
     try_reference();
+    try_dates();
     return tally();
 }

@@ -2,12 +2,12 @@
  *
  *     rt staticlib pinebuckle
  *     gcc -std=c99 -Wall -Wextra -Werror -O1 -Iinclude -o target/vectors tests/vectors.c target/staticlib/libpinebuckle.a
- *     target/vectors tests/lists/{altered,examples,readings,replay,writings}.txt
+ *     target/vectors tests/lists/{altered,dates,examples,readings,replay,writings}.txt
  *
  * The first lines of each list have the form of its lines. A message is tried in four ways: read whole, fed by single bytes, fed as one piece, and fed in
- * two pieces, cut at every byte. The rows of a line are written in one way, and so are those that the crate's messages give. A piece on an altered state is
- * fed whole and by single bytes, in one check; everywhere else a line in one way is one check. Every field of every answer, every number lent and the guard
- * behind it, every number of the state and every byte of the output is compared.
+ * two pieces, cut at every byte. The rows of a line are written in one way, and so are those that the crate's messages give. A row is asked for its milliseconds
+ * once. A piece on an altered state is fed whole and by single bytes, in one check; everywhere else a line in one way is one check. Every field of every answer,
+ * every number lent and the guard behind it, every number of the state and every byte of the output is compared.
  *
  * Prints what differs, its numbers in hexadecimal, a tally for each kind of line, and last 'N passed, M failed'. The exit status is 1 if a check fails, a line
  * can't be understood, or a list has no lines. */
@@ -48,7 +48,6 @@ typedef struct {
 } writing;
 
 #define NEVER ((size_t)-1)
-#define LATEST_DATE ((size_t)1 << 53) /* in milliseconds, that can be written */
 
 /* ---- where we are */
 
@@ -325,15 +324,15 @@ static int try_refused(void) {
     return 1;
 }
 
-/* Writes what the whole reading left. */
-static void try_rewriting(const reading *r, pb_answer answer) {
+/* Writes what the whole reading left, as so many bytes. */
+static void try_rewriting(const reading *r, size_t n) {
     writing *w = &write_now;
     w->rows_len = r->answer.rows * PB_ROW_WIDTH;
     memcpy(w->rows, r->left.numbers[IN_ROWS], w->rows_len * sizeof(size_t));
     w->store_len = r->lent[IN_STORE];
     memcpy(w->store, r->left.store, w->store_len);
     w->room = REPLAY_OUTPUT;
-    w->answer = answer;
+    w->answer = finished(0, n, 0);
     begin_check("written again");
     count(write_right(w));
 }
@@ -347,30 +346,7 @@ static int try_finished(void) {
     size_t n = bytes(write_now.bytes, REPLAY_OUTPUT);
     if (!understood() || !n) return 0;
     try_message(r);
-    try_rewriting(r, finished(0, n, 0));
-    return 1;
-}
-
-/* The first row that is a date too late to be written. */
-static size_t late_date(const reading *r) {
-    size_t i = 0;
-    const size_t *row = r->left.numbers[IN_ROWS];
-    while (i < r->answer.rows && (row[PB_KIND] != PB_DATE || row[PB_NUMBER] <= LATEST_DATE)) {
-        row += PB_ROW_WIDTH;
-        i++;
-    }
-    return i;
-}
-
-/* MESSAGE TAKEN */
-static int try_unwritten(void) {
-    reading *r = &read_now;
-    replayed(r);
-    r->decided = number_to(r->length);
-    r->answer = finished(0, 0, r->decided);
-    if (!understood()) return 0;
-    try_message(r);
-    try_rewriting(r, refused(PB_UNWRITABLE, late_date(r), 0));
+    try_rewriting(r, n);
     return 1;
 }
 
@@ -386,6 +362,22 @@ static int try_writing(void) {
     if (!understood() || (no ? n != 0 : told || place)) return 0;
     begin_check(NULL);
     count(write_right(w));
+    return 1;
+}
+
+/* ROWS STORE ROW FOUND MILLIS */
+static int try_millis(void) {
+    static const uint8_t store[PB_STORE_MOST + 1];
+    static size_t given[ROWS * PB_ROW_WIDTH];
+    writing *w = &write_now;
+    w->rows_len = list(w->rows, ROWS * PB_ROW_WIDTH);
+    size_t store_len = number_to(sizeof store), row = number(), found = number_to(1);
+    pb_moment due = {found, (int64_t)number()};
+    if (!understood() || (!found && due.millis)) return 0;
+    memcpy(given, w->rows, sizeof given);
+    begin_check(NULL);
+    int right = millis_are(pb_millis(given, w->rows_len, store, store_len, row), due);
+    count(right && (!memcmp(given, w->rows, sizeof given) || wrong("the rows changed")));
     return 1;
 }
 
@@ -465,8 +457,8 @@ static struct {
     {"waiting", try_waiting, 0, 0, 0},
     {"written", try_writing, 0, 0, 0},
     {"writing", try_writing, 0, 0, 0},
+    {"millis", try_millis, 0, 0, 0},
     {"finished", try_finished, 0, 0, 0},
-    {"unwritten", try_unwritten, 0, 0, 0},
     {"refused", try_refused, 0, 0, 0},
     {"altered", try_altered, 0, 0, 0},
 };

@@ -94,13 +94,29 @@ KINDS = [
     DICTIONARY + new(1) + b"\x01" + (STRING + old(1)) + (DATE + old(2)),
 ]
 
+# A box built before 1970, and an array of when it was seen: that day again, parts of a millisecond, -0.0, the earliest date that is listed, past both ends.
+BUILT = [
+    OBJECT + trait(3) + text(b"yard.Box") + text(b"box") + text(b"built") + text(b"seen"),
+    STRING + text(b"MSKU1234565"),
+    DATE + new(0) + double(-31536000000),
+    ARRAY + new(7) + EMPTY,
+    DATE + old(1),
+    DATE + new(0) + double(-1.5),
+    DATE + new(0) + double(-0.75),
+    DATE + new(0) + double(-0.0),
+    DATE + new(0) + double(-(2.0**63)),
+    DATE + new(0) + double(-1e300),
+    DATE + new(0) + double(1e300),
+]
+
 SAMPLES = {
     "order": ORDER,
     "kinds": KINDS,
+    "built": BUILT,
     "pieces": [BYTE_ARRAY + new(5000), bytes(i % 251 for i in range(5000)), b"not taken"],
     "none": [],
     "marker": [ARRAY + new(1) + EMPTY + b"\x12"],
-    "date": [DATE + new(0) + double(-0.0)],
+    "date": [DATE + new(0) + double(float("-inf"))],
     "deep": [64 * (ARRAY + new(1) + EMPTY) + NULL],
     "rows": [ARRAY + new(512) + EMPTY + 512 * NULL],
 }
