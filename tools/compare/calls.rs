@@ -50,6 +50,14 @@ pub struct Span {
     pub length: usize,
 }
 
+/// A date's milliseconds, if there are any.
+#[repr(C)]
+#[derive(Clone, Copy, Debug, Default, PartialEq, Eq)]
+pub struct Moment {
+    pub found: usize,
+    pub millis: i64,
+}
+
 macro_rules! loan_calls {
     ($($name:ident($($before:ident: $of:ty),*; $($after:ident: $by:ty),*);)*) => {
         extern "C" {
@@ -69,6 +77,7 @@ loan_calls! {
 extern "C" {
     fn pb_write(rows: *const usize, rows_len: usize, store: *const u8, store_len: usize, out: *mut u8, out_len: usize) -> Answer;
     fn pb_text(rows: *const usize, rows_len: usize, store: *const u8, store_len: usize, row: usize) -> Span;
+    fn pb_millis(rows: *const usize, rows_len: usize, store: *const u8, store_len: usize, row: usize) -> Moment;
 }
 
 /// Memory for the six loans, of which a part is lent.
@@ -186,6 +195,11 @@ impl Loans {
         call!(pb_end, self, before state)
     }
 
+    /// All rows and the whole store that are lent.
+    pub fn lent_table(&self) -> Table<'_> {
+        Table { rows: &self.rows[..self.lent[0]], store: &self.store[..self.lent[1]] }
+    }
+
     /// The rows and the store of a finished reading.
     pub fn table(&self, a: &Answer) -> Table<'_> {
         Table { rows: &self.rows[..a.rows * COLUMNS], store: &self.store[..a.bytes] }
@@ -209,6 +223,11 @@ impl<'a> Table<'a> {
     pub fn text(&self, row: usize) -> Option<&'a [u8]> {
         let s = unsafe { pb_text(self.rows.as_ptr(), self.rows.len(), self.store.as_ptr(), self.store.len(), row) };
         (s.found == 1).then(|| &self.store[s.begin..s.begin + s.length])
+    }
+
+    /// The milliseconds of a row's date.
+    pub fn moment(&self, row: usize) -> Moment {
+        unsafe { pb_millis(self.rows.as_ptr(), self.rows.len(), self.store.as_ptr(), self.store.len(), row) }
     }
 }
 

@@ -1,6 +1,7 @@
 //! Holds the library to the crate amf 1.0.0 on the same inputs. README.md says how it is run and what is compared.
 
 mod calls;
+mod dates;
 mod differences;
 mod fed;
 mod inputs;
@@ -9,8 +10,9 @@ mod published;
 mod tree;
 mod trees;
 
-use calls::{Answer, Loans, FINISHED, MOST, REFUSED};
-use inputs::{damaged, date_bits, Maker, Random, TEXT_EDGES};
+use amf::amf3::Value;
+use calls::{Answer, Loans, Table, COLUMNS, FINISHED, MOST, REFUSED};
+use inputs::{bits_of_exponent, damaged, date_bits, Dates, Maker, Random, TEXT_EDGES};
 use published::Published;
 use std::io::Write;
 use tree::{same, unfold};
@@ -29,8 +31,14 @@ pub struct Tally {
     finished: usize,
     refused: [usize; 15],
     skipped: usize,
-    /// Writings whose bytes are equal, and those that are refused.
+    /// Messages that the crate refuses for a date's sign bit: how they end here.
+    signed_finished: usize,
+    signed_refused: usize,
+    /// Messages with a date of 2^63 milliseconds or more, which are held here.
+    held: usize,
+    /// Writings whose bytes are the crate's, those with dates that the crate need not write alike, and those that are refused.
     written: usize,
+    written_by_bits: usize,
     unwritten: [usize; 15],
     /// Readings with other loans, and readings in pieces.
     lent: usize,
@@ -38,17 +46,52 @@ pub struct Tally {
 }
 
 impl Tally {
+    /// Counts a finished message, by what its dates are.
+    fn count_finished(&mut self, signed: bool, held: bool) {
+        match (signed, held) {
+            (true, _) => self.signed_finished += 1,
+            (false, true) => self.held += 1,
+            (false, false) => self.finished += 1,
+        }
+    }
+
     /// The numbers of its line in the table.
     fn line(&self) -> Vec<usize> {
         let (r, u) = (&self.refused, &self.unwritten);
         let refused = r[2..9].iter().sum();
-        vec![self.inputs, self.finished, refused, r[9], r[10], r[11], self.skipped, self.written, u[9], u[10], u[13], u[14], self.lent + r[1], self.fed]
+        let readings = [self.finished, refused, self.signed_finished, self.signed_refused, self.held, r[9], r[10], r[11], self.skipped];
+        let writings = [self.written, self.written_by_bits, u[9], u[10], u[13], u[14]];
+        [&[self.inputs][..], &readings, &writings, &[self.lent + r[1], self.fed]].concat()
     }
 }
 
 const HEADER: &str = "\
-| inputs | count | finished, equal | refused 2 to 8, equal | outside: 9 | 10 | 11 | crate skipped | written, equal | not written: 9 | 10 | 13 | 14 | other loans | in pieces |
-|---|---|---|---|---|---|---|---|---|---|---|---|---|---|---|";
+| inputs | count | finished, equal | refused 2 to 8, equal | sign bit: finished | refused | held | outside: 9 | 10 | 11 | crate skipped | written, equal | by bits | not written: 9 | 10 | 13 | 14 | other loans | in pieces |
+|---|---|---|---|---|---|---|---|---|---|---|---|---|---|---|---|---|---|---|";
+
+/// A tree to be written: its value, the bits of its dates in turn, and the bytes that must come of them.
+struct Writing {
+    value: Value,
+    dates: Vec<u64>,
+    bytes: Vec<u8>,
+    /// Whether the bytes are the crate's as they stand, and not only but for the dates.
+    alike: bool,
+}
+
+impl Writing {
+    fn new(value: Value, dates: Vec<u64>) -> Writing {
+        let alike = dates.iter().all(|bits| dates::is_written_alike(*bits));
+        let bytes = if alike { published::write(&value) } else { dates::written(&value, &dates) };
+        Writing { value, dates, bytes, alike }
+    }
+}
+
+/// What every byte of an output is before a writing.
+const UNWRITTEN: u8 = 0x5a;
+
+fn is_unwritten(out: &[u8]) -> bool {
+    out.iter().all(|b| *b == UNWRITTEN)
+}
 
 /// Both sides, and what was found.
 pub struct Comparison {
@@ -60,6 +103,9 @@ pub struct Comparison {
     tallies: Vec<Tally>,
     /// Writings too long to be read again.
     unread: usize,
+    /// Of the writings by bits after a reading that the crate does too: those with its bytes, and the others.
+    kept_by_crate: usize,
+    cut_by_crate: usize,
     differences: usize,
     shown: Vec<(Vec<u8>, String)>,
 }
@@ -80,6 +126,8 @@ impl Comparison {
             random: Random::new(1),
             tallies: Vec::new(),
             unread: 0,
+            kept_by_crate: 0,
+            cut_by_crate: 0,
             differences: 0,
             shown: Vec::new(),
         }
@@ -146,61 +194,118 @@ impl Comparison {
             }
             return;
         }
-        match published::read(message) {
+        let (cleared, published) = dates::cleared(message);
+        match published {
             Published::Skipped => self.tally().skipped += 1,
             Published::Refused { no, told, place } => {
-                self.tally().refused[no] += 1;
+                if cleared == message {
+                    self.tally().refused[no] += 1;
+                } else {
+                    self.tally().signed_refused += 1;
+                }
                 if a != Answer::refused(no, told, place) {
                     self.differ(message, format!("the crate refuses {no} told {told:x} place {place}, here {a:?}"));
                 }
             }
-            Published::Finished { value, taken } => {
-                self.tally().finished += 1;
-                self.finished(message, &a, &value, taken);
-            }
+            Published::Finished { value, taken } if a.kind == FINISHED && a.taken == taken => self.finished(message, &cleared, &a, value),
+            Published::Finished { taken, .. } => self.differ(message, format!("the crate takes {taken} bytes, here {a:?}")),
         }
     }
 
-    /// Compares a value of the crate with the rows, and what both write.
-    fn finished(&mut self, message: &[u8], a: &Answer, value: &amf::amf3::Value, taken: usize) {
-        if a.kind != FINISHED || a.taken != taken {
-            return self.differ(message, format!("the crate takes {taken} bytes, here {a:?}"));
-        }
-        match unfold(&self.loans.table(a), 0) {
+    /// Compares a value of the crate with the rows, and what both write. It read the cleared message, which has no date's sign bit.
+    fn finished(&mut self, message: &[u8], cleared: &[u8], a: &Answer, value: Value) {
+        let dates = match self.unfolded(message, cleared, a, &value) {
+            Ok(dates) => dates,
             Err(e) => return self.differ(message, e),
-            Ok((v, end)) if end != a.rows || !same(&v, value) => return self.differ(message, format!("the crate reads {value:?}, here {v:?}")),
-            Ok(_) => {}
+        };
+        let signed = cleared != message;
+        let held = dates.iter().any(|bits| dates::is_held(*bits));
+        self.tally().count_finished(signed, held);
+        let x = Writing::new(value, dates);
+        if !signed && !x.alike {
+            self.kept(message, &x);
         }
-        let bytes = published::write(value);
         let mut out = std::mem::take(&mut self.out);
-        out.resize(out.len().max(bytes.len() + 8), 0);
-        out[..bytes.len() + 8].fill(0x5a);
-        let w = self.loans.table(a).write(&mut out[..bytes.len() + 8]);
-        self.written(message, value, &bytes, &w, &out[..bytes.len() + 8]);
+        let room = x.bytes.len() + 8;
+        out.resize(out.len().max(room), 0);
+        out[..room].fill(UNWRITTEN);
+        let w = self.loans.table(a).write(&mut out[..room]);
+        self.written(message, &x, &w, &out[..room]);
         self.out = out;
     }
 
-    /// Compares what was written with the crate's bytes, and reads them again.
-    fn written(&mut self, message: &[u8], value: &amf::amf3::Value, bytes: &[u8], w: &Answer, out: &[u8]) {
+    /// The bits of the tree's dates, once the rows say what the crate says: its value, and the bits that came.
+    fn unfolded(&mut self, message: &[u8], cleared: &[u8], a: &Answer, value: &Value) -> Result<Vec<u64>, String> {
+        let table = self.loans.table(a);
+        let tree = unfold(&table)?;
+        if tree.end != a.rows || !same(&tree.value, value) {
+            return Err(format!("the crate reads {value:?}, here {:?}", tree.value));
+        }
+        dates::check_moments(&table)?;
+        dates::check_bits(&table, message, cleared)?;
+        if cleared != message {
+            self.as_cleared(cleared, a)?;
+        }
+        Ok(tree.dates)
+    }
+
+    /// The cleared message leaves the same answer and the same in all loans, but for the sign bits of date rows.
+    fn as_cleared(&mut self, cleared: &[u8], a: &Answer) -> Result<(), String> {
+        self.other.lent = self.loans.lent;
+        self.other.spoil();
+        let b = self.other.read(cleared);
+        dates::copy_signs(&mut self.other.rows, &self.loans.table(a));
+        if b != *a || !self.other.holds_as(&self.loans) {
+            return Err(format!("without the sign bits {b:?}, with them {a:?}"));
+        }
+        Ok(())
+    }
+
+    /// The crate writes a date's bits again exactly if they are whole milliseconds without a sign, up to 2^64.
+    fn kept(&mut self, message: &[u8], x: &Writing) {
+        let bytes = published::write(&x.value);
+        let kept = bytes == x.bytes;
+        self.kept_by_crate += kept as usize;
+        self.cut_by_crate += !kept as usize;
+        if kept != x.dates.iter().all(|bits| dates::is_kept_by_crate(*bits)) {
+            self.differ(message, format!("the crate writes {}, of dates {:x?}", hex(&bytes), x.dates));
+        }
+    }
+
+    /// Compares what was written with the bytes that must come.
+    fn written(&mut self, message: &[u8], x: &Writing, w: &Answer, out: &[u8]) {
         if w.kind == REFUSED {
-            let right = (w.no == 14 && trees::late_date(value) || w.no == 9 && trees::levels(value) > 64) && out.iter().all(|b| *b == 0x5a);
             self.tally().unwritten[w.no] += 1;
-            if !right {
+            if w.no != 9 || trees::levels(&x.value) <= 64 || !is_unwritten(out) {
                 self.differ(message, format!("written: {w:?}"));
             }
             return;
         }
-        self.tally().written += 1;
-        if w.bytes != bytes.len() || out[..bytes.len()] != *bytes || out[bytes.len()..].iter().any(|b| *b != 0x5a) {
-            self.differ(message, format!("the crate writes {}, here {w:?} {}", hex(bytes), hex(out)));
+        if x.alike {
+            self.tally().written += 1;
+        } else {
+            self.tally().written_by_bits += 1;
         }
-        self.back.lend(roomy(bytes.len(), (2 * bytes.len() + 16).min(MOST[1])));
-        let b = self.back.read(bytes);
-        let again = (b.kind == FINISHED && b.taken == bytes.len()).then(|| unfold(&self.back.table(&b), 0));
-        let crate_again = matches!(published::read(bytes), Published::Finished { value: v, taken } if taken == bytes.len() && same(&v, value));
+        let length = x.bytes.len();
+        if w.bytes != length || out[..length] != x.bytes || !is_unwritten(&out[length..]) {
+            self.differ(message, format!("to be written {}, here {w:?} {}", hex(&x.bytes), hex(out)));
+        }
+        self.read_again(message, x);
+    }
+
+    /// Both sides read the written bytes to the same tree; here its dates have the same bits.
+    fn read_again(&mut self, message: &[u8], x: &Writing) {
+        let length = x.bytes.len();
+        self.back.lend(roomy(length, (2 * length + 16).min(MOST[1])));
+        let b = self.back.read(&x.bytes);
         if [10, 11].contains(&b.no) {
             self.unread += 1;
-        } else if !matches!(again, Some(Ok((v, _))) if same(&v, value)) || !crate_again {
+            return;
+        }
+        let again = (b.kind == FINISHED && b.taken == length).then(|| unfold(&self.back.table(&b)));
+        let here = matches!(again, Some(Ok(tree)) if same(&tree.value, &x.value) && tree.dates == x.dates);
+        let there = matches!(dates::cleared(&x.bytes).1, Published::Finished { value, taken } if taken == length && same(&value, &x.value));
+        if !here || !there {
             self.differ(message, format!("read again: {b:?}"));
         }
     }
@@ -303,16 +408,17 @@ impl Comparison {
     }
 
     /// A tree that no reading made: written by both sides, into room enough or too little, then with a row made wrong.
-    fn tree(&mut self, r: &mut Random, faults: usize) {
+    fn tree(&mut self, r: &mut Random, faults: usize, dates: Dates) {
         let left = r.pick(&[1, 4, 20, 60]);
         let (nest, depth) = (if r.once_in(20) { 55 + r.below(12) } else { 0 }, 1 + r.below(7));
-        let mut t = trees::Tree::new(r, left, faults);
+        let mut t = trees::Tree::new(r, left, faults, dates);
         let value = t.nest(nest, depth);
         let (mut rows, store, unwritable) = (t.numbers(), t.store.clone(), t.unwritable);
         if store.len() > MOST[1] {
             return;
         }
         self.tally().inputs += 1;
+        self.moments(&[], &trees::table(&rows, &store));
         if let Some(row) = unwritable {
             let w = trees::table(&rows, &store).write(&mut self.out);
             self.tally().unwritten[14] += 1;
@@ -321,40 +427,81 @@ impl Comparison {
             }
             return;
         }
-        let bytes = published::write(&value);
-        let mut out = vec![0x5a; bytes.len() + 8];
-        let w = trees::table(&rows, &store).write(&mut out);
-        self.written(&bytes, &value, &bytes, &w, &out);
-        let short = r.below(bytes.len());
-        let mut out = vec![0x5a; short];
-        let w = trees::table(&rows, &store).write(&mut out);
-        let right = w == Answer::refused(10, 7, short) || w.no == 9 && trees::levels(&value) > 64;
-        self.tally().unwritten[w.no] += 1;
-        if !right || out.iter().any(|b| *b != 0x5a) {
-            self.differ(&bytes, format!("written into {short} bytes: {w:?}"));
+        match unfold(&trees::table(&rows, &store)) {
+            Ok(tree) if same(&tree.value, &value) => self.grown(r, &trees::table(&rows, &store), Writing::new(value, tree.dates)),
+            Ok(tree) => self.differ(&[], format!("grown {value:?}, here {:?}", tree.value)),
+            Err(e) => self.differ(&[], e),
         }
         trees::damaged(r, &mut rows, store.len());
         self.wrong_rows(&rows, &store);
     }
 
+    /// Rows that can be written: into room enough, and into too little.
+    fn grown(&mut self, r: &mut Random, t: &Table, x: Writing) {
+        let mut out = vec![UNWRITTEN; x.bytes.len() + 8];
+        let w = t.write(&mut out);
+        self.written(&x.bytes, &x, &w, &out);
+        let short = r.below(x.bytes.len());
+        let mut out = vec![UNWRITTEN; short];
+        let w = t.write(&mut out);
+        let right = w == Answer::refused(10, 7, short) || w.no == 9 && trees::levels(&x.value) > 64;
+        self.tally().unwritten[w.no] += 1;
+        if !right || !is_unwritten(&out) {
+            self.differ(&x.bytes, format!("written into {short} bytes: {w:?}"));
+        }
+    }
+
+    /// The milliseconds of all rows, whatever they say, and that there are none in rows that aren't whole.
+    fn moments(&mut self, message: &[u8], t: &Table) {
+        let cut = Table { rows: &t.rows[..t.rows.len() - 1], store: t.store };
+        if let Err(e) = dates::check_moments(t).and_then(|()| dates::check_no_moments(&cut)) {
+            self.differ(message, e);
+        }
+    }
+
     /// Rows that may be wrong: refused with nothing written, or written as the crate writes their tree.
     fn wrong_rows(&mut self, rows: &[usize], store: &[u8]) {
         let t = trees::table(rows, store);
-        let mut out = vec![0x5a; 1 << 14];
+        self.moments(&[], &t);
+        let mut out = vec![UNWRITTEN; 1 << 14];
         let w = t.write(&mut out);
         if w.kind == REFUSED {
             self.tally().unwritten[w.no] += 1;
-            if ![9, 10, 13, 14].contains(&w.no) || out.iter().any(|b| *b != 0x5a) {
+            if ![9, 10, 13, 14].contains(&w.no) || !is_unwritten(&out) {
                 self.differ(&[], format!("wrong rows: {w:?}"));
             }
             return;
         }
-        match unfold(&t, 0) {
-            Ok((value, _)) => {
-                let bytes = published::write(&value);
-                self.written(&bytes, &value, &bytes, &w, &out[..w.bytes.max(bytes.len())]);
+        match unfold(&t) {
+            Ok(tree) => {
+                let x = Writing::new(tree.value, tree.dates);
+                self.written(&x.bytes, &x, &w, &out[..w.bytes.max(x.bytes.len())]);
             }
             Err(e) => self.differ(&out[..w.bytes], format!("wrong rows are written: {e}")),
+        }
+    }
+
+    /// The milliseconds of rows that no reading leaves.
+    fn moments_of_any_rows(&mut self, r: &mut Random) {
+        self.tally().inputs += 1;
+        self.moments(&[], &trees::table(&trees::any_rows(r), &[]));
+    }
+
+    /// The milliseconds of a date in the largest loans, and that there are none in larger ones.
+    fn moments_in_full_loans(&mut self) {
+        let date = tree::Row { kind: 8, number: 1f64.to_bits() as usize, end: 1, ..tree::Row::default() };
+        let mut rows = vec![0; (MOST[0] + 1) * COLUMNS];
+        rows[..COLUMNS].copy_from_slice(&date.columns());
+        let store = vec![0; MOST[1] + 1];
+        let (row_numbers, bytes) = (MOST[0] * COLUMNS, MOST[1]);
+        let table = |numbers: usize, bytes: usize| Table { rows: &rows[..numbers], store: &store[..bytes] };
+        for (numbers, bytes) in [(COLUMNS, 0), (row_numbers, 0), (COLUMNS, bytes), (row_numbers, bytes)] {
+            self.moments(&[], &table(numbers, bytes));
+        }
+        for (numbers, bytes) in [(COLUMNS, bytes + 1), (row_numbers + COLUMNS, 0), (row_numbers + 1, 0), (COLUMNS + 1, 0), (row_numbers, bytes + 1)] {
+            if let Err(e) = dates::check_no_moments(&table(numbers, bytes)) {
+                self.differ(&[], e);
+            }
         }
     }
 }
@@ -384,12 +531,12 @@ pub fn text_in(form: usize, s: &[u8]) -> Vec<u8> {
     [before, &[size], s, after].concat()
 }
 
-/// A made message: flat or nested, with so many faults.
-pub fn made(r: &mut Random, faults: usize) -> Vec<u8> {
+/// A made message: flat or nested, with so many faults, and such dates.
+pub fn made(r: &mut Random, faults: usize, dates: Dates) -> Vec<u8> {
     let left = r.pick(&[1, 3, 8, 30, 100]);
     let depth = r.pick(&[0, 1, 2, 4, 8]);
     let levels = if r.once_in(8) { r.pick(&[3, 10, 40, 55, 60, 62, 63, 64, 65]) } else { 0 };
-    let mut m = Maker::new(r, left, faults);
+    let mut m = Maker::new(r, left, faults, dates);
     m.nest(levels, depth);
     let mut out = m.out;
     if r.once_in(4) {
@@ -425,28 +572,44 @@ fn classes(c: &mut Comparison, scale: usize) {
             c.message(&text_in(form, s));
         });
     }
+    date_classes(c, scale);
+    made_classes(c, scale);
+}
+
+/// The classes of single dates. Each second one of every exponent has a reference to it.
+fn date_classes(c: &mut Comparison, scale: usize) {
     c.begin("dates at their edges");
     let r = &mut Random::new(2);
     for i in 0..2_000 * scale {
         let word: &[u8] = [&[1u8][..], &[3], &[0x80, 1], &[0xff, 0xff, 0xff, 0xff]][i % 4];
-        c.message(&[&[8], word, &date_bits(r).to_be_bytes()].concat());
+        c.message(&[&[8], word, &date_bits(r, Dates::Any).to_be_bytes()].concat());
     }
-    made_classes(c, scale);
+    c.begin("dates of every exponent");
+    let all = (0..1 << 11).flat_map(|exponent| bits_of_exponent(exponent, scale < 100));
+    for (i, bits) in all.enumerate() {
+        let (before, after): (&[u8], &[u8]) = [(&[8, 1][..], &[][..]), (&[9, 5, 1, 8, 1], &[8, 2])][i / 2 % 2];
+        c.message(&[before, &bits.to_be_bytes(), after].concat());
+    }
 }
 
 /// The classes that are made at random.
 fn made_classes(c: &mut Comparison, scale: usize) {
-    for (seed, name, faults) in [(3, "made, valid", 0), (4, "made, with a fault here and there", 60)] {
+    let classes = [
+        (3, "made, valid", 0, Dates::Unsigned),
+        (10, "made, valid, dates of both signs", 0, Dates::Finite),
+        (4, "made, with a fault here and there", 60, Dates::Any),
+    ];
+    for (seed, name, faults, dates) in classes {
         c.begin(name);
         let r = &mut Random::new(seed);
         for _ in 0..5_000 * scale {
-            c.message(&made(r, faults));
+            c.message(&made(r, faults, dates));
         }
     }
     c.begin("made, then damaged");
     let r = &mut Random::new(5);
     for _ in 0..3_000 * scale {
-        let m = made(r, 0);
+        let m = made(r, 0, Dates::Unsigned);
         for _ in 0..3 {
             c.message(&damaged(r, &m));
         }
@@ -454,14 +617,30 @@ fn made_classes(c: &mut Comparison, scale: usize) {
     c.begin("made, into loans from empty to full");
     let r = &mut Random::new(6);
     for _ in 0..1_000 * scale {
-        c.with_small_loans(&made(r, 100));
+        c.with_small_loans(&made(r, 100, Dates::Finite));
     }
-    for (seed, name, faults) in [(7, "trees of rows", 0), (8, "trees of rows, some not to be written", 30)] {
+    tree_classes(c, scale);
+}
+
+/// The classes of rows that no reading made.
+fn tree_classes(c: &mut Comparison, scale: usize) {
+    let classes = [
+        (7, "trees of rows", 0, Dates::Whole),
+        (11, "trees of rows, all finite dates", 0, Dates::Finite),
+        (8, "trees of rows, some not to be written", 30, Dates::Whole),
+    ];
+    for (seed, name, faults, dates) in classes {
         c.begin(name);
         let r = &mut Random::new(seed);
         for _ in 0..2_000 * scale {
-            c.tree(r, faults);
+            c.tree(r, faults, dates);
         }
+    }
+    c.begin("rows of any content, milliseconds");
+    c.moments_in_full_loans();
+    let r = &mut Random::new(12);
+    for _ in 0..5_000 * scale {
+        c.moments_of_any_rows(r);
     }
 }
 
@@ -477,7 +656,8 @@ fn print(c: &Comparison) {
     show("all", &(0..last.line().len()).map(sum).collect::<Vec<usize>>());
     let kinds: Vec<String> = (2..9).map(|k| format!("{k}: {}", grouped(c.tallies.iter().map(|t| t.refused[k]).sum()))).collect();
     println!("\nRefusals compared: {}.", kinds.join(", "));
-    println!("Written but too long for the loans or the limit when read again: {}.", c.unread);
+    println!("Written but too long for the loans or the limit when read again: {}.", grouped(c.unread));
+    println!("Written by bits after a reading that the crate does too: {} with its bytes, {} with others.", grouped(c.kept_by_crate), grouped(c.cut_by_crate));
     println!("Differences: {}.", c.differences);
     for (m, what) in &c.shown {
         println!("  {} {what}", hex(m));

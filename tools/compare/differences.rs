@@ -94,7 +94,6 @@ fn leaf(kind: usize, number: usize) -> Row {
 /// Values that the crate writes or panics at, with their rows; beside some of them the last one that is written here.
 fn unwritable() -> Vec<(Value, Vec<Row>)> {
     let integer = |n: i32| (Value::Integer(n), vec![leaf(4, n as i64 as usize)]);
-    let date = |ms: u64| (Value::Date { unix_time: Duration::from_millis(ms) }, vec![leaf(8, ms as usize)]);
     let null_under = |row: usize| Row { kind: 2, key: Some((0, 0)), end: row + 1, ..Row::default() };
     let array = |v| Value::Array { assoc_entries: Vec::new(), dense_entries: vec![v] };
     let deep = (0..64).fold(Value::Null, |v, _| array(v));
@@ -109,8 +108,6 @@ fn unwritable() -> Vec<(Value, Vec<Row>)> {
         integer(1 << 29),
         integer(1 << 30),
         integer(i32::MIN),
-        date(1 << 53),
-        date((1 << 53) + 1),
         (Value::Array { assoc_entries: empty_key(), dense_entries: Vec::new() }, vec![Row { kind: 9, count: 1, end: 2, ..Row::default() }, null_under(1)]),
         (Value::Object { class_name: None, sealed_count: 0, entries: empty_key() }, vec![Row { kind: 10, second: 1, end: 2, ..Row::default() }, null_under(1)]),
         (Value::Object { class_name: Some(String::new()), sealed_count: 0, entries: Vec::new() }, vec![Row { kind: 10, class: 1, end: 1, ..Row::default() }]),
@@ -137,10 +134,65 @@ fn writings() {
     }
 }
 
+/// The bits of dates on both sides of each edge.
+const DATE_EDGES: [u64; 15] = [
+    0x0000_0000_0000_0000,
+    0x8000_0000_0000_0000,
+    0xbff8_0000_0000_0000,
+    0x0000_0000_0000_0001,
+    0x3ff8_0000_0000_0000,
+    0x4340_0000_0000_0000,
+    0x4340_0000_0000_0001,
+    0x43df_ffff_ffff_ffff,
+    0x43e0_0000_0000_0000,
+    0x43ef_ffff_ffff_ffff,
+    0x43f0_0000_0000_0000,
+    0x43f0_0000_0000_0001,
+    0xc3e0_0000_0000_0000,
+    0xffef_ffff_ffff_ffff,
+    0x7ff0_0000_0000_0000,
+];
+
+/// A date's milliseconds by the crate, and the bits that it writes.
+fn date_of_crate(m: &[u8]) -> (String, String) {
+    match published::read(m) {
+        Published::Finished { value: Value::Date { unix_time }, .. } => {
+            (unix_time.as_millis().to_string(), hex(&published::write(&Value::Date { unix_time })[2..]))
+        }
+        p => (say_published(&p), String::new()),
+    }
+}
+
+/// The same here, by row 0.
+fn date_here(loans: &mut Loans, m: &[u8]) -> (String, String) {
+    let a = loans.read(m);
+    if a.kind != FINISHED {
+        return (say(&a), String::new());
+    }
+    let mut out = [0; 10];
+    let w = loans.table(&a).write(&mut out);
+    (loans.table(&a).moment(0).millis.to_string(), hex(&out[2..w.bytes]))
+}
+
+fn dates() {
+    println!("| date's bits | crate, milliseconds | crate, written | here, milliseconds | here, written |\n|---|---|---|---|---|");
+    let mut loans = Loans::new();
+    loans.lend(MOST);
+    for bits in DATE_EDGES {
+        let m = [&[8, 1][..], &bits.to_be_bytes()].concat();
+        let (there, here) = (date_of_crate(&m), date_here(&mut loans, &m));
+        println!("| {bits:016x} | {} | {} | {} | {} |", there.0, there.1, here.0, here.1);
+    }
+    let between = Value::Date { unix_time: Duration::from_millis((1 << 53) + 1) };
+    println!("\nA value of 2^53 + 1 milliseconds, which no row has, is written by the crate as {}.", hex(&published::write(&between)));
+}
+
 /// Prints all of them.
 pub fn print() {
     std::panic::set_hook(Box::new(|_| {}));
     readings();
     println!();
     writings();
+    println!();
+    dates();
 }

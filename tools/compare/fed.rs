@@ -1,6 +1,7 @@
 //! The same message in pieces: answer, rows, all loans and bytes taken must be those of the whole.
 
 use crate::calls::{Answer, Loans, FINISHED, REFUSED, STATE_WORDS, WAITING};
+use crate::dates::check_moments;
 use crate::inputs::Random;
 use crate::Comparison;
 
@@ -80,7 +81,7 @@ impl Comparison {
         }
     }
 
-    /// A part of a message, in pieces and joined: the same answer, state and loans, though it may wait.
+    /// A part of a message, in pieces and joined: the same answer, state and loans, though it may wait. Open rows answer for their milliseconds as they stand.
     fn waiting(&mut self, message: &[u8]) {
         let part = &message[..self.random.below(message.len() + 1)];
         let (mut one, mut many) = ([0; STATE_WORDS], [0; STATE_WORDS]);
@@ -94,6 +95,9 @@ impl Comparison {
         let taken_all = b.kind == REFUSED || b.kind == FINISHED || b.taken == part.len();
         if a != b && !part.is_empty() || one != many || !self.other.holds_as(&self.back) || !taken_all {
             self.differ(part, format!("a part in pieces: {a:?}, joined {b:?}"));
+        }
+        if let Err(e) = check_moments(&self.other.lent_table()) {
+            self.differ(part, format!("while it waits: {e}"));
         }
     }
 }

@@ -1,5 +1,7 @@
 //! Messages and trees to compare on. Seeds are fixed: a run makes the same ones again.
 
+use crate::dates::{is_finite, SIGN, WHOLE_MOST};
+
 /// Random numbers (xorshift64*).
 pub struct Random(u64);
 
@@ -42,12 +44,59 @@ pub const TEXT_EDGES: [u8; 27] = [
     0xff,
 ];
 
+/// Which dates are made.
+#[derive(Clone, Copy)]
+pub enum Dates {
+    /// Whole milliseconds from +0 to 2^53: both sides write them alike.
+    Whole,
+    /// Finite ones without a sign bit: the crate reads them.
+    Unsigned,
+    /// Finite ones: they are read and written here.
+    Finite,
+    /// Any bits.
+    Any,
+}
+
+/// A date in the middle of all.
+const ORDINARY: f64 = 1_700_000_000_000.0;
+
+/// The bits of a date of these.
+pub fn date_bits(r: &mut Random, dates: Dates) -> u64 {
+    let bits = any_date_bits(r);
+    match dates {
+        Dates::Any => bits,
+        Dates::Whole => (whole_millis(r, bits) as f64).to_bits(),
+        _ if !is_finite(bits) => ORDINARY.to_bits(),
+        Dates::Unsigned => bits & !SIGN,
+        Dates::Finite => bits,
+    }
+}
+
+/// The whole milliseconds of these bits, or others where those are too many.
+fn whole_millis(r: &mut Random, bits: u64) -> u64 {
+    let millis = f64::from_bits(bits & !SIGN) as u64;
+    if millis > WHOLE_MOST {
+        r.pick(&[0, 1, WHOLE_MOST - 1, WHOLE_MOST])
+    } else {
+        millis
+    }
+}
+
+/// The bits of NaN or an infinity.
+pub fn date_bits_not_finite(r: &mut Random) -> u64 {
+    const INFINITY: u64 = 0x7ff << 52;
+    let sign = (r.below(2) as u64) << 63;
+    let payload = if r.once_in(2) { 0 } else { r.bits() >> 12 };
+    INFINITY | sign | payload
+}
+
 /// The bits of a double at an edge of what a date may be, or near one, or any.
-pub fn date_bits(r: &mut Random) -> u64 {
-    const EDGES: [f64; 16] = [
+fn any_date_bits(r: &mut Random) -> u64 {
+    const EDGES: [f64; 17] = [
         0.0,
         0.5,
         1.0,
+        1.5,
         999.0,
         1000.0,
         4_294_967_296.0,
@@ -63,14 +112,22 @@ pub fn date_bits(r: &mut Random) -> u64 {
         f64::INFINITY,
     ];
     let near = r.pick(&EDGES).to_bits().wrapping_add(r.below(9) as u64).wrapping_sub(4);
-    let sign = (r.once_in(6) as u64) << 63;
+    let sign = (r.once_in(3) as u64) << 63;
     match r.below(6) {
         0 => r.bits(),
         1 => ((r.bits() >> r.below(64)) as f64).to_bits() ^ sign,
         2 => ((r.bits() >> r.below(64)) as f64 / 16.0).to_bits() ^ sign,
-        3 => (r.bits() >> 12 | 0x7ff << 52) ^ sign,
+        3 => date_bits_not_finite(r),
         _ => near ^ sign,
     }
+}
+
+/// The bits of doubles of one exponent: an empty fraction, one bit of it, and a full one, or fewer.
+pub fn bits_of_exponent(exponent: u64, few: bool) -> Vec<u64> {
+    const FRACTION: u32 = 52;
+    let step = if few { 51 } else { 1 };
+    let fractions = (0..FRACTION).step_by(step).map(|place| 1 << place).chain([0, (1 << FRACTION) - 1]);
+    fractions.flat_map(|fraction| [0, SIGN].map(|sign| sign | exponent << FRACTION | fraction)).collect()
 }
 
 /// A double's bits: special ones, or any.
@@ -103,11 +160,12 @@ pub struct Maker<'a> {
     left: usize,
     /// Once in so many decisions something is made wrong; 0 never.
     faults: usize,
+    dates: Dates,
 }
 
 impl<'a> Maker<'a> {
-    pub fn new(r: &'a mut Random, left: usize, faults: usize) -> Maker<'a> {
-        Maker { out: Vec::new(), r, strings: 0, objects: Vec::new(), traits: Vec::new(), left, faults }
+    pub fn new(r: &'a mut Random, left: usize, faults: usize, dates: Dates) -> Maker<'a> {
+        Maker { out: Vec::new(), r, strings: 0, objects: Vec::new(), traits: Vec::new(), left, faults, dates }
     }
 
     fn fault(&mut self) -> bool {
@@ -255,10 +313,7 @@ impl<'a> Maker<'a> {
     fn date(&mut self) {
         let any = self.r.small();
         self.size(any);
-        let mut bits = date_bits(self.r);
-        if self.faults == 0 && bits >= 0x7ff0_0000_0000_0000 {
-            bits = 1_700_000_000_000f64.to_bits();
-        }
+        let bits = date_bits(self.r, self.dates);
         self.out.extend(bits.to_be_bytes());
     }
 

@@ -49,11 +49,18 @@ pub enum Published {
     Skipped,
 }
 
-/// A message as the crate reads it: counts the bytes taken, and fails when the crate has too much memory.
+/// A message as the crate reads it: counts the bytes taken, notes where eight are taken at once, and fails when the crate has too much memory.
 struct Message<'a> {
     bytes: &'a [u8],
     at: usize,
+    eights: Vec<usize>,
     before: usize,
+}
+
+impl Message<'_> {
+    fn new(bytes: &[u8]) -> Message<'_> {
+        Message { bytes, at: 0, eights: Vec::new(), before: ALLOCATED.load(Relaxed) }
+    }
 }
 
 impl io::Read for Message<'_> {
@@ -63,6 +70,9 @@ impl io::Read for Message<'_> {
         }
         let n = buf.len().min(self.bytes.len() - self.at);
         buf[..n].copy_from_slice(&self.bytes[self.at..self.at + n]);
+        if n == 8 {
+            self.eights.push(self.at);
+        }
         self.at += n;
         Ok(n)
     }
@@ -70,8 +80,18 @@ impl io::Read for Message<'_> {
 
 /// Reads a message with the crate. The place is the count of bytes that it has taken.
 pub fn read(bytes: &[u8]) -> Published {
-    let mut message = Message { bytes, at: 0, before: ALLOCATED.load(Relaxed) };
-    let (no, told) = match Value::read_from(&mut message) {
+    answer(&mut Message::new(bytes))
+}
+
+/// The places at which the crate takes eight bytes at once: numbers, and texts of that length.
+pub fn eights(bytes: &[u8]) -> Vec<usize> {
+    let mut message = Message::new(bytes);
+    answer(&mut message);
+    message.eights
+}
+
+fn answer(message: &mut Message) -> Published {
+    let (no, told) = match Value::read_from(&mut *message) {
         Ok(value) => return Published::Finished { value, taken: message.at },
         Err(DecodeError::Io(e)) if e.kind() == io::ErrorKind::OutOfMemory => return Published::Skipped,
         Err(DecodeError::Io(_)) => (2, 0),

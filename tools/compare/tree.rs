@@ -44,13 +44,21 @@ fn text(t: &Table, span: (usize, usize)) -> Result<String, String> {
     String::from_utf8(bytes(t, span)?.to_vec()).map_err(|e| e.to_string())
 }
 
-/// The children of a row, one after another.
-struct Children<'a> {
-    table: Table<'a>,
-    next: usize,
+/// The tree of a table's first row, the row after it, and the bits of its dates as they come in the tree.
+pub struct Unfolded {
+    pub value: Value,
+    pub end: usize,
+    pub dates: Vec<u64>,
 }
 
-impl Children<'_> {
+/// The children of a row, one after another.
+struct Children<'a, 'b> {
+    table: Table<'a>,
+    next: usize,
+    dates: &'b mut Vec<u64>,
+}
+
+impl Children<'_, '_> {
     fn value(&mut self) -> Result<Value, String> {
         match self.any()? {
             (None, v) => Ok(v),
@@ -66,17 +74,24 @@ impl Children<'_> {
     }
 
     fn any(&mut self) -> Result<(Option<(usize, usize)>, Value), String> {
-        let (v, end) = unfold(&self.table, self.next)?;
+        let (v, end) = unfold_row(&self.table, self.next, self.dates)?;
         let row = Row::at(&self.table, self.next)?;
         self.next = end;
         Ok((row.key, v))
     }
 }
 
-/// The tree of a row, references replaced by copies of their targets, and the row after it. Each row's text is asked for on the way.
-pub fn unfold(t: &Table, row: usize) -> Result<(Value, usize), String> {
+/// Unfolds: references are replaced by copies of their targets. Each row's text is asked for on the way, and each date's milliseconds.
+pub fn unfold(t: &Table) -> Result<Unfolded, String> {
+    let mut dates = Vec::new();
+    let (value, end) = unfold_row(t, 0, &mut dates)?;
+    Ok(Unfolded { value, end, dates })
+}
+
+/// The tree of a row, and the row after it.
+fn unfold_row(t: &Table, row: usize, dates: &mut Vec<u64>) -> Result<(Value, usize), String> {
     let r = Row::at(t, row)?;
-    let mut below = Children { table: *t, next: row + 1 };
+    let mut below = Children { table: *t, next: row + 1, dates };
     let value = of_row(t, row, &r, &mut below)?;
     if r.end != below.next {
         return Err(format!("row {row} ends at {}, its children at {}", r.end, below.next));
@@ -97,7 +112,7 @@ fn of_row(t: &Table, row: usize, r: &Row, below: &mut Children) -> Result<Value,
         5 => Value::Double(f64::from_bits(r.number as u64)),
         6 => Value::String(text(t, r.body)?),
         7 => Value::XmlDocument(text(t, r.body)?),
-        8 => Value::Date { unix_time: Duration::from_millis(r.number as u64) },
+        8 => date(t, row, &r, below.dates)?,
         9 => Value::Array {
             assoc_entries: (0..r.count).map(|_| below.pair()).collect::<Result<_, _>>()?,
             dense_entries: (0..r.second).map(|_| below.value()).collect::<Result<_, _>>()?,
@@ -113,9 +128,19 @@ fn of_row(t: &Table, row: usize, r: &Row, below: &mut Children) -> Result<Value,
             is_weak: r.flag == 1,
             entries: (0..r.count).map(|_| Ok(Pair { key: below.value()?, value: below.value()? })).collect::<Result<_, String>>()?,
         },
-        18 if r.number < row => unfold(t, r.number)?.0,
+        18 if r.number < row => unfold_row(t, r.number, below.dates)?.0,
         _ => return Err(format!("the kind of row {row}")),
     })
+}
+
+/// A date by its milliseconds without their sign, which its bits tell.
+fn date(t: &Table, row: usize, r: &Row, dates: &mut Vec<u64>) -> Result<Value, String> {
+    let moment = t.moment(row);
+    if moment.found != 1 {
+        return Err(format!("row {row} has no milliseconds"));
+    }
+    dates.push(r.number as u64);
+    Ok(Value::Date { unix_time: Duration::from_millis(moment.millis.unsigned_abs()) })
 }
 
 /// The numbers of a raw vector.
@@ -127,13 +152,19 @@ fn items<const N: usize, T>(t: &Table, r: &Row, of: fn([u8; N]) -> T) -> Result<
     Ok(raw.chunks_exact(N).map(|c| of(c.try_into().unwrap())).collect())
 }
 
-/// Whether two values are equal, doubles by their bits.
+/// Milliseconds, those past the ends of a row's as the last one.
+fn held(time: &Duration) -> u128 {
+    time.as_millis().min(i64::MAX as u128)
+}
+
+/// Whether two values are equal, doubles by their bits, dates by milliseconds that a row can say.
 pub fn same(a: &Value, b: &Value) -> bool {
     let pairs =
         |x: &[Pair<String, Value>], y: &[Pair<String, Value>]| x.len() == y.len() && x.iter().zip(y).all(|(p, q)| p.key == q.key && same(&p.value, &q.value));
     let all = |x: &[Value], y: &[Value]| x.len() == y.len() && x.iter().zip(y).all(|(p, q)| same(p, q));
     match (a, b) {
         (Value::Double(x), Value::Double(y)) => x.to_bits() == y.to_bits(),
+        (Value::Date { unix_time: x }, Value::Date { unix_time: y }) => held(x) == held(y),
         (Value::DoubleVector { is_fixed: f, entries: x }, Value::DoubleVector { is_fixed: g, entries: y }) => {
             f == g && x.len() == y.len() && x.iter().zip(y).all(|(p, q)| p.to_bits() == q.to_bits())
         }

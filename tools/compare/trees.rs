@@ -1,14 +1,12 @@
 //! Trees of rows that no reading made, beside the crate's values that they mean.
 
 use crate::calls::{Table, COLUMNS};
-use crate::inputs::{date_bits, double_bits, text, Random};
+use crate::dates;
+use crate::inputs::{date_bits, date_bits_not_finite, double_bits, text, Dates, Random};
 use crate::tree::Row;
 use amf::amf3::Value;
 use amf::Pair;
 use std::time::Duration;
-
-/// The most milliseconds that are written.
-const DATE_MOST: u64 = 1 << 53;
 
 /// A tree in the making.
 pub struct Tree<'a> {
@@ -22,11 +20,12 @@ pub struct Tree<'a> {
     left: usize,
     /// Once in so many decisions something that can't be written; 0 never.
     faults: usize,
+    dates: Dates,
 }
 
 impl<'a> Tree<'a> {
-    pub fn new(r: &'a mut Random, left: usize, faults: usize) -> Tree<'a> {
-        Tree { rows: Vec::new(), store: Vec::new(), unwritable: None, r, done: Vec::new(), left, faults }
+    pub fn new(r: &'a mut Random, left: usize, faults: usize, dates: Dates) -> Tree<'a> {
+        Tree { rows: Vec::new(), store: Vec::new(), unwritable: None, r, done: Vec::new(), left, faults, dates }
     }
 
     fn fault(&mut self, row: usize) -> bool {
@@ -142,12 +141,9 @@ impl<'a> Tree<'a> {
                 Value::Double(f64::from_bits(bits))
             }
             8 => {
-                let mut millis = f64::from_bits(date_bits(self.r)) as u64;
-                if millis > DATE_MOST && !self.fault(row) {
-                    millis = self.r.pick(&[0, 1, DATE_MOST - 1, DATE_MOST]);
-                }
-                self.rows[row].number = millis as usize;
-                Value::Date { unix_time: Duration::from_millis(millis) }
+                let bits = if self.fault(row) { date_bits_not_finite(self.r) } else { date_bits(self.r, self.dates) };
+                self.rows[row].number = bits as usize;
+                dates::published(bits)
             }
             6 | 7 | 11 => {
                 let s = self.text();
@@ -270,11 +266,21 @@ pub fn levels(v: &Value) -> usize {
     1 + below(v).into_iter().map(levels).max().unwrap_or(0)
 }
 
-/// Whether a value has a date over 2^53 milliseconds.
-pub fn late_date(v: &Value) -> bool {
+/// Does something with the time of each date of a value, in the order in which they are written.
+pub fn each_date(v: &mut Value, each: &mut impl FnMut(&mut Duration)) {
     match v {
-        Value::Date { unix_time } => unix_time.as_millis() > DATE_MOST as u128,
-        _ => below(v).into_iter().any(late_date),
+        Value::Date { unix_time } => each(unix_time),
+        Value::Array { assoc_entries, dense_entries } => {
+            assoc_entries.iter_mut().for_each(|p| each_date(&mut p.value, each));
+            dense_entries.iter_mut().for_each(|v| each_date(v, each));
+        }
+        Value::Object { entries, .. } => entries.iter_mut().for_each(|p| each_date(&mut p.value, each)),
+        Value::ObjectVector { entries, .. } => entries.iter_mut().for_each(|v| each_date(v, each)),
+        Value::Dictionary { entries, .. } => entries.iter_mut().for_each(|p| {
+            each_date(&mut p.key, each);
+            each_date(&mut p.value, each);
+        }),
+        _ => {}
     }
 }
 
@@ -285,6 +291,22 @@ pub fn damaged(r: &mut Random, rows: &mut [usize], store: usize) {
     let any = r.bits() as usize;
     let near = r.below(rows.len() / COLUMNS + 2);
     rows[at] = r.pick(&[0, 1, 2, old.wrapping_add(1), old.wrapping_sub(1), near, any, near % 19, store, usize::MAX]);
+}
+
+/// Rows that need not be a tree: dates, references to any row, also to each other and past the end, and others.
+pub fn any_rows(r: &mut Random) -> Vec<usize> {
+    let rows = 1 + r.below(8);
+    let row = |_| {
+        let kind = r.pick(&[5, 8, 8, 8, 9, 18, 18, 18, 19, 0]);
+        let number = match kind {
+            18 if r.once_in(8) => r.bits() as usize,
+            18 => r.below(rows + 1),
+            _ => date_bits(r, Dates::Any) as usize,
+        };
+        let mut any = || r.bits() as usize >> r.below(64);
+        Row { kind, number, key: Some((any(), any())), body: (any(), any()), class: any(), flag: any(), count: any(), second: any(), end: any() }.columns()
+    };
+    (0..rows).flat_map(row).collect()
 }
 
 /// A table of these.

@@ -8,63 +8,64 @@
 //!
 //! The answers are Rust's: `String::from_utf8`, `from_be_bytes`, `to_be_bytes`, `f64::from_bits`, `to_bits`, shifts and casts of
 //! `i32`, `i64` and `f64`. A U29 is read and written by `decode_u29` and `encode_u29` of amf 1.0.0, copied below, and held here to
-//! the table of Adobe's AMF 3 specification, section 1.3.1. Integers and dates are held to what amf 1.0.0 does with them. One answer
-//! is neither Rust's nor the crate's: that milliseconds above 2^53 are outside.
+//! the table of Adobe's AMF 3 specification, section 1.3.1. Integers are held to what amf 1.0.0 does with them, and so are dates that
+//! it takes, below 2^63 milliseconds.
 
 use std::collections::BTreeSet;
 use std::fmt::Write;
 use std::fs;
 use std::io::{self, Read};
 
-/// What the lines of each kind say, in the order in which they stand in the file. Numbers and bytes are hexadecimal.
-const KINDS: [(&str, &str, fn(&mut Rows)); 12] = [
+/// What the lines of each kind say, in the order in which they stand in the file, and the seed that they are made with. Numbers and
+/// bytes are hexadecimal.
+const KINDS: [(&str, &str, u64, fn(&mut Rows)); 11] = [
     (
         "read_u29",
         "BYTES AT VALUE NEXT, or BYTES AT short",
+        0,
         read_u29_rows,
     ),
-    ("put_u29", "VALUE BYTES", put_u29_rows),
-    ("integer", "U29 COLUMN", integer_rows),
+    ("put_u29", "VALUE BYTES", 1, put_u29_rows),
+    ("integer", "U29 COLUMN", 2, integer_rows),
     (
         "integer_bits",
         "COLUMN U29, or COLUMN outside",
+        3,
         integer_bits_rows,
     ),
-    ("column", "SIGN MAGNITUDE COLUMN", column_rows),
+    ("column", "SIGN MAGNITUDE COLUMN", 4, column_rows),
     (
         "read_be32",
         "BYTES AT VALUE NEXT, or BYTES AT short",
+        5,
         read_be32_rows,
     ),
-    ("put_be32", "VALUE BYTES", put_be32_rows),
+    ("put_be32", "VALUE BYTES", 6, put_be32_rows),
     (
         "read_be64",
         "BYTES AT VALUE NEXT, or BYTES AT short",
+        7,
         read_be64_rows,
     ),
-    ("put_be64", "VALUE BYTES", put_be64_rows),
+    ("put_be64", "VALUE BYTES", 8, put_be64_rows),
+    ("millis", "BITS COLUMN, or BITS none", 9, millis_rows),
     (
-        "date_millis",
-        "BITS MILLIS, or BITS refused",
-        date_millis_rows,
+        "text",
+        "BYTES valid, BYTES cut, or BYTES broken",
+        11,
+        text_rows,
     ),
-    (
-        "date_bits",
-        "MILLIS BITS, or MILLIS outside",
-        date_bits_rows,
-    ),
-    ("text", "BYTES valid, BYTES cut, or BYTES broken", text_rows),
 ];
 
 fn main() -> io::Result<()> {
     let mut file = String::from(
         "# Made by tools/leaves/main.rs. Each line has a kind, what is asked, and the answer:\n",
     );
-    for (kind, form, _) in KINDS {
+    for (kind, form, ..) in KINDS {
         writeln!(file, "# {kind} {form}").unwrap();
     }
-    for (seed, (kind, _, make)) in KINDS.into_iter().enumerate() {
-        let mut rows = Rows::new(kind, seed as u64);
+    for (kind, _, seed, make) in KINDS {
+        let mut rows = Rows::new(kind, seed);
         make(&mut rows);
         for line in &rows.lines {
             writeln!(file, "{line}").unwrap();
@@ -436,28 +437,35 @@ fn put_be64_rows(rows: &mut Rows) {
 
 // ---- dates
 
-fn date_millis_rows(rows: &mut Rows) {
+/// A double's sign bit.
+const SIGN: u64 = 1 << 63;
+
+fn millis_rows(rows: &mut Rows) {
     for bits in date_edges() {
-        date_millis_row(rows, bits);
-        date_millis_row(rows, bits | 1 << 63);
+        millis_of_both_signs(rows, bits);
     }
     for _ in 0..300 {
         let bits = rows.random();
-        date_millis_row(rows, bits);
+        millis_row(rows, bits);
     }
     // from 2^-4 to 2^68, where the whole part says something
-    for _ in 0..500 {
+    for _ in 0..700 {
         let exponent = 1023 - 4 + rows.below(73);
-        let fraction = rows.random() >> 12;
-        date_millis_row(rows, exponent << 52 | fraction);
+        let sign_and_fraction = rows.random() & (SIGN | ((1 << 52) - 1));
+        millis_row(rows, exponent << 52 | sign_and_fraction);
     }
     // whole numbers and a half, and just below whole numbers
     for _ in 0..100 {
         let bits = 1 + rows.below(51) as u32;
         let whole = rows.wide(bits) as f64;
-        date_millis_row(rows, (whole + 0.5).to_bits());
-        date_millis_row(rows, whole.to_bits() - 1);
+        millis_of_both_signs(rows, (whole + 0.5).to_bits());
+        millis_of_both_signs(rows, whole.to_bits() - 1);
     }
+}
+
+fn millis_of_both_signs(rows: &mut Rows, bits: u64) {
+    millis_row(rows, bits);
+    millis_row(rows, bits | SIGN);
 }
 
 /// Powers of two from subnormal to infinite, all from 2^-5 to 2^69, some other numbers and NaNs, each with the bits next to it.
@@ -469,7 +477,7 @@ fn date_edges() -> BTreeSet<u64> {
     for exponent in (0..2048)
         .step_by(31)
         .chain(1018..1093)
-        .chain([1, 2045, 2046, 2047])
+        .chain([1, 2, 2045, 2046, 2047])
     {
         all.insert(exponent << 52);
     }
@@ -501,36 +509,29 @@ fn date_edges() -> BTreeSet<u64> {
         .flat_map(|&b| [b.saturating_sub(1), b + 1])
         .collect();
     all.extend(next);
-    all.retain(|&b| b < 1 << 63);
+    all.retain(|&b| b < SIGN);
     all
 }
 
-/// The test and the cast of `Decoder::decode_date` of the crate amf 1.0.0.
-fn date_millis_row(rows: &mut Rows, bits: u64) {
+/// Rust's cast: cut towards zero, held at the ends.
+fn millis_row(rows: &mut Rows, bits: u64) {
     let millis = f64::from_bits(bits);
-    let refused = millis.is_nan() || millis.is_infinite() || bits >> 63 == 1;
-    assert_eq!(refused, !(millis.is_finite() && millis.is_sign_positive()));
-    rows.add(if refused {
-        format!("{bits:x} refused")
+    if let Some(unsigned) = millis_of_crate(millis) {
+        assert_eq!(unsigned.min(i64::MAX as u64), millis as i64 as u64);
+    }
+    rows.add(if millis.is_finite() {
+        format!("{bits:x} {:x}", millis as i64 as u64)
     } else {
-        format!("{bits:x} {:x}", millis as u64)
+        format!("{bits:x} none")
     });
 }
 
-fn date_bits_rows(rows: &mut Rows) {
-    let mut values = edges(53);
-    values.push(1 << 53);
-    for _ in 0..300 {
-        let bits = 1 + rows.below(53) as u32;
-        values.push(rows.wide(bits));
-    }
-    for ms in values {
-        assert_eq!(ms as f64 as u64, ms);
-        rows.add(format!("{ms:x} {:x}", (ms as f64).to_bits()));
-    }
-    // above 2^53 not every whole number is a double: wire refuses them all
-    for ms in edges(64).into_iter().filter(|&ms| ms > 1 << 53) {
-        rows.add(format!("{ms:x} outside"));
+/// The test and the cast of `Decoder::decode_date` of the crate amf 1.0.0.
+fn millis_of_crate(millis: f64) -> Option<u64> {
+    if !(millis.is_finite() && millis.is_sign_positive()) {
+        None
+    } else {
+        Some(millis as u64)
     }
 }
 
