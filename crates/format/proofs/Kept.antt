@@ -23,7 +23,7 @@ use Rattle.format.specs.Decide.{rowsTo, storeTo, stringsTo, objectsTo, t
 use Rattle.format.specs.Decide.{marker, closed, numbered, integerEnd, dateEnd, bodied, classed, objectClass, vectorClass, flagged, counted, keyEnd}
 use Rattle.format.specs.Decide.{grown, oldText, reserved, stored, judged, textEnd, entered, referred, oldTrait, named, traitEnd, sealedKey, starred}
 use Rattle.format.specs.Numbers.{lentOf, finishable}
-use Rattle.format.proofs.Tests.{on-bool, clash, is-true}
+use Rattle.format.proofs.Tests.{on-bool, is-true}
 use Rattle.format.proofs.Loans as loans
 use Rattle.format.proofs.Used.{Counts, RowIn, SpanIn, KeyIn, Roomy, Grows, grows-same}
 use Rattle.format.specs.Refusals as no

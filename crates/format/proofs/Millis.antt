@@ -6,7 +6,6 @@ use lib.IntN.{pos, negsuc}
 use lib.Ieee as ieee
 use lib.ListN.{take, replicate}
 use Rattle.wire.specs.Date as y
-use Rattle.wire.specs.declared.Moment.{Moment}
 use Rattle.wire.specs.declared.Moment.the-variants.{None, At}
 use Rattle.utf8.specs.Grammar as g
 use Rattle.rows.specs.Memory as m

@@ -7,7 +7,7 @@ use mathlib.Core.Option.{none}
 use Prim.Native.Nat.{ℕ, _+_, _≤_, _*_, _^_, _<_, _-_}
 use lib.Dec.{eqb, T}
 use lib.ListN.{length, replicate, take, getD}
-use Rattle.rows.specs.Memory.{memory, Memory, zeroed, fresh, messageLimit, noKey, loanNames, messageMost, loanRows, colKind, colNumber, rowWidth}
+use Rattle.rows.specs.Memory.{memory, Memory, zeroed, fresh, messageLimit, noKey, loanNames, messageMost, loanRows, colKind, rowWidth}
 use Rattle.rows.specs.Memory.{spanWidth, traitWidth, loanStore, loanStrings, loanObjects, loanTraits, rowsMost, storeMost, loanOutput, col, colKeyMark, colKeyBegin, colKeySize, colBodyBegin}
 use Rattle.rows.specs.declared.Cursor.{Cursor}
 use Rattle.rows.specs.declared.Key.{Key}
@@ -23,7 +23,6 @@ use Rattle.format.specs.Answers.{Fed, fed, beginCall, feedCall, endCall,
 use Rattle.format.specs.declared.Frame.{Frame}
 use Rattle.format.specs.Codes.{statusWaiting, statusRefused}
 use Rattle.format.specs.Unfold.{unfolded}
-use Rattle.format.specs.RowTest.{fine, Tested, faulty}
 use Rattle.format.specs.Decide.{lost}
 use Rattle.format.specs.Standard.{Tree, encode}
 use Rattle.format.specs.declared.Written.{Written}

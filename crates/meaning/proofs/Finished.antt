@@ -2,12 +2,12 @@
 use mathlib.Core.Path.{_≡_, refl, sym, ap, _∙_}
 use mathlib.Core.Bool.{true}
 use mathlib.Core.List.{List}
-use Prim.Native.Nat.{ℕ, zero, suc, _*_, _/_, _^_, _<_, _≤_}
+use Prim.Native.Nat.{ℕ, zero, suc, _*_, _/_, _<_, _≤_}
 use native.Mathlib.Omega.{arith}
 use lib.ListN.{length, take}
 use lib.Seq.{length-take-le, getD-take}
 use Rattle.rows.specs.declared.Cursor.{Cursor}
-use Rattle.rows.specs.Memory.{Memory, zeroed, fresh, faultOf, openLimit, noKey, colKind, colNumber, rowsIn, col}
+use Rattle.rows.specs.Memory.{Memory, zeroed, fresh, faultOf, openLimit, noKey, rowsIn}
 use Rattle.format.specs.Reading.{Result, Ended, finished, ended, unlessFault, value, reading}
 use Rattle.format.specs.Step.{over, run, end, begin}
 use Rattle.format.specs.RowTest.{wellFormed, writable, fine, tested, keyless}

@@ -10,11 +10,10 @@ use lib.Dec.{T, leb, ltb, eqb}
 use lib.ListN.{length, getD}
 use Rattle.rows.specs.declared.Key.{Key}
 use Rattle.rows.specs.Memory.{span, colKind, colKeyMark, colNumber, colEnd, rowsIn, col}
-use Rattle.rows.specs.Kinds.{kindDate}
 use Rattle.utf8.specs.Grammar.{validText, follow}
 use Rattle.format.specs.Unfold.{part, after}
 use Rattle.format.specs.RowTest.{spanFits, markFits, columnsFit, signedFits, valueFits, children, closes, Given, gives, parentIn, given}
-use Rattle.format.specs.RowTest.{markOf, isFilled, wellFormed, numberWritable, bodyWritable, keyWritable, writable, Tested, fine, faulty, testFrom}
+use Rattle.format.specs.RowTest.{markOf, isFilled, wellFormed, numberWritable, bodyWritable, keyWritable, writable, fine, testFrom}
 use Rattle.format.specs.RowTest.{tested}
 use Rattle.format.proofs.Tests.{on-bool, both, or-true}
 use Rattle.format.proofs.Tested.{parent, child-given}

@@ -1,9 +1,9 @@
 -- What an ended state says: told values, and how it ended.
 use mathlib.Core.Path.{_≡_, refl, ap, sym, _∙_}
-use mathlib.Core.Bool.{Bool, true, false, cond, not, _&&_, _||_}
+use mathlib.Core.Bool.{Bool, true, false, not, _&&_, _||_}
 use Prim.Native.Nat.{ℕ, _^_, _<_}
 use lib.Dec.{ltb, eqb}
-use borrow.Author.Tests.{eq-eqb, ne-eqb, lt-ltb}
+use borrow.Author.Tests.{ne-eqb, lt-ltb}
 use Rattle.wire.specs.Date.{refusedDate}
 use Rattle.format.specs.Codes.{statusWaiting, statusFinished, statusRefused}
 use Rattle.format.specs.declared.Head.{Head}

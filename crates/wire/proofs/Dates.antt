@@ -9,7 +9,7 @@ use borrow.Author.Tests.{le-leb, lt-leb, leb-false, le-ltb, lt-ltb, eq-eqb, ne-e
 use lib.Dec.{T, eqb, leb, ltb, le→leb, leb→le, lt→ltb, lit<}
 use lib.Pow.{pow-add, pow-mono, shl-lt, shl-exact, shl-shr, shr-shr, shr-le}
 use lib.IntN.{ℤ, pos, negℤ}
-use lib.Ieee.{Float, nan, inf, fin, binary64, up, down, isNan, fits, whole as isWhole, inFloat, inUnsigned, ofInt, ofBits, toBits, toUnsigned, toSigned}
+use lib.Ieee.{Float, nan, inf, fin, binary64, up, down, fits, whole as isWhole, inFloat, inUnsigned, ofInt, ofBits, toBits, toUnsigned, toSigned}
 use lib.Ieee.Exact.{HasValue}
 use lib.Ieee.Back.{positive-back, float-back-unsigned, round-whole}
 use lib.Ieee.Bits.{ofBits-toBits, toBits-ofBits, ofBits-fits}
