@@ -468,6 +468,29 @@ fn millis_of_both_signs(rows: &mut Rows, bits: u64) {
     millis_row(rows, bits | SIGN);
 }
 
+/// Numbers that are no powers of two, or ends of what a double holds.
+const NUMBERS: [f64; 8] = [
+    0.999,
+    1.5,
+    1e3,
+    1e12,
+    8.64e15,
+    f64::MAX,
+    f64::MIN_POSITIVE,
+    f64::EPSILON,
+];
+
+/// What stands in a NaN's fraction.
+const NAN_PAYLOADS: [u64; 7] = [
+    1,
+    2,
+    0x7_ffff_ffff_ffff,
+    0x8_0000_0000_0000,
+    0x8_0000_0000_0001,
+    0xc_dead_beef_0001,
+    0xf_ffff_ffff_ffff,
+];
+
 /// Powers of two from subnormal to infinite, all from 2^-5 to 2^69, some other numbers and NaNs, each with the bits next to it.
 fn date_edges() -> BTreeSet<u64> {
     let mut all = BTreeSet::new();
@@ -481,29 +504,8 @@ fn date_edges() -> BTreeSet<u64> {
     {
         all.insert(exponent << 52);
     }
-    for x in [
-        0.999,
-        1.5,
-        1e3,
-        1e12,
-        8.64e15,
-        f64::MAX,
-        f64::MIN_POSITIVE,
-        f64::EPSILON,
-    ] {
-        all.insert(f64::to_bits(x));
-    }
-    for payload in [
-        1,
-        2,
-        0x7_ffff_ffff_ffff,
-        0x8_0000_0000_0000,
-        0x8_0000_0000_0001,
-        0xc_dead_beef_0001,
-        0xf_ffff_ffff_ffff,
-    ] {
-        all.insert(f64::INFINITY.to_bits() | payload);
-    }
+    all.extend(NUMBERS.map(f64::to_bits));
+    all.extend(NAN_PAYLOADS.map(|payload| f64::INFINITY.to_bits() | payload));
     let next: Vec<u64> = all
         .iter()
         .flat_map(|&b| [b.saturating_sub(1), b + 1])
