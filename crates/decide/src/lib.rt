@@ -1,6 +1,8 @@
 // Every decision of a reading: each takes only the loans that it touches, and is the definition of the same name. The cursor's place is already past the
 // byte that is decided on.
 
+#![tactic(auto)]
+
 ghost use Rattle.std.specs.Prelude.{◌≡◌, cond, List, [], ◌∷◌, ℕ, ◌+◌, ◌-◌, ◌*◌, ◌/◌, ◌<◌, ltb, eqb, length};
 ghost use Rattle.std.proofs.lemmas.List.Edits.{sets};
 ghost use Rattle.wire.specs.Put.{with1};

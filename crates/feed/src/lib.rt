@@ -1,5 +1,7 @@
 // The calls on a state by value: a reading begins, a piece is fed, the end is declared.
 
+#![tactic(auto)]
+
 ghost use Rattle.rows.specs.Memory.{at_entry, at_exit, Memory};
 ghost use Rattle.std.specs.Prelude.{◌≡◌, List, ℕ, ◌-◌};
 ghost use Rattle.format.specs.Numbers.{state_of, held};

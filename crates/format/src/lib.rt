@@ -1,6 +1,8 @@
 // The answers of the public calls, and the types of a state that is lent to the feed: plain numbers, any of which is a state. What they mean is
 // specs/Answers.antt and specs/Numbers.antt.
 
+#![tactic(auto)]
+
 pub mod modes;
 pub mod purposes;
 pub mod refusals;

@@ -1,6 +1,8 @@
 // The tests of rows before they are written: 13, a row is malformed, and 14, it can't be written. A small function is the definition of its name in
 // crates/format/specs/RowTest.antt. `judge` goes over the rows once: each row's walk over its children keeps the least row that has not the key it is given.
 
+#![tactic(auto)]
+
 ghost use Rattle.std.specs.Prelude.{◌≡◌, true, ◌&&◌, ◌*◌, ◌+◌, ◌<◌, ◌≤◌, leb, eqb};
 ghost use Rattle.rows.specs.Memory.{rows_in, col, col_end};
 ghost use Rattle.utf8.specs.Grammar.{valid_text};

@@ -1,5 +1,7 @@
 // What the definitions mean, as laws on them: proofs/Meaning.antt and others. There is no code here.
 
+#![tactic(auto)]
+
 ghost use Rattle.std.specs.Prelude.{◌≡◌};
 
 // How many things are shown of them: reading means the standard, a finished table can be written, and what is written reads back.

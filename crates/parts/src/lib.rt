@@ -1,5 +1,7 @@
 // Strings, numbers and bodies, and the beginnings of the other values, read from a message.
 
+#![tactic(auto)]
+
 ghost use Rattle.scan.specs.Reads.{Reads};
 ghost use Rattle.rows.specs.Memory.{kept};
 ghost use Rattle.std.specs.Prelude.{◌≡◌, List, true, ℕ, ◌+◌, ◌^◌, ◌≤◌, ◌<◌, length};

@@ -1,6 +1,8 @@
 // One byte on any state, and a piece of a message: any numbers are a state, a byte is taken only where they hold together, and a piece is its bytes one
 // after another.
 
+#![tactic(auto)]
+
 ghost use Rattle.rows.specs.Memory.{at_entry, at_exit, memory, message_limit};
 ghost use Rattle.resume.specs.Steps.{Steps, after, after_of, settled};
 ghost use Rattle.std.specs.Prelude.{◌≡◌, true, false, List, ℕ, ◌+◌, ◌-◌, ◌≤◌, ◌<◌, length};

@@ -1,6 +1,8 @@
 // The public calls, and the same as C has them. For C numbers are 64 bits, a slice is a pointer and a count of elements; include/pinebuckle.h declares
 // them.
 
+#![tactic(auto)]
+
 use format::{Frames, Head};
 use text::Found;
 // All that a caller names: the state, the calls on one by value, the answers, and the numbers of widths, columns, kinds, loans and refusals.

@@ -1,5 +1,7 @@
 // The demands as theorems on the definitions: proofs/Demands.antt. There is no code here.
 
+#![tactic(auto)]
+
 ghost use Rattle.std.specs.Prelude.{◌≡◌};
 
 // How many demands there are.

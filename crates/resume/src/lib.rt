@@ -1,6 +1,8 @@
 // What a reading that waits goes on with once a value, a key or a text is whole: the frames of the open values, and the strings. The frames lie behind
 // `frames`, `depth` of them open; they are written at most once, when the step ends waiting.
 
+#![tactic(auto)]
+
 ghost use Rattle.resume.specs.Steps.{Steps};
 ghost use Rattle.rows.specs.Memory.{kept};
 ghost use Rattle.std.specs.Prelude.{◌≡◌, List, ◌∷◌, ℕ, suc, ◌+◌, ◌*◌, ◌<◌};

@@ -1,5 +1,7 @@
 // What a reading holds beside the six loans, and the parts of a row: plain numbers, by value.
 
+#![tactic(auto)]
+
 pub mod columns;
 pub mod kinds;
 pub mod loans;

@@ -1,5 +1,7 @@
 // The bytes, words, numbers and texts of a message, from a cursor on.
 
+#![tactic(auto)]
+
 ghost use Rattle.scan.specs.Reads.{Reads};
 ghost use Rattle.rows.specs.Memory.{kept};
 ghost use Rattle.std.specs.Prelude.{◌≡◌, List, true, ◌&&◌, ℕ, ◌+◌, ◌^◌, ◌≤◌, ◌<◌, leb, length};

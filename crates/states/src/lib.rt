@@ -1,5 +1,7 @@
 // The numbers of a state: any are one, and a state that waits is sound where they are numbers that a reading could have left.
 
+#![tactic(auto)]
+
 ghost use Rattle.std.specs.Prelude.{◌≡◌, true, false, ◌&&◌, List, ℕ, ◌+◌, ◌^◌, leb, ltb, eqb};
 ghost use Rattle.rows.specs.Memory.{Memory, open_limit, span_used};
 ghost use Rattle.format.specs.Codes.{mode_marker, mode_word, mode_number, mode_flag, mode_text, mode_raw};

@@ -1,6 +1,8 @@
 // One byte's step of a reading that waits: what each mode makes of it, by the decisions. The frames of the open values lie behind `frames`, `depth` of them
 // open; they are written at most once, when the step ends waiting.
 
+#![tactic(auto)]
+
 ghost use Rattle.resume.specs.Steps.{Steps, after, grown_by};
 ghost use Rattle.rows.specs.Memory.{kept, open_most};
 ghost use Rattle.std.specs.Prelude.{◌≡◌, true, List, ℕ, suc, ◌<◌};

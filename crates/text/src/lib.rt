@@ -1,5 +1,7 @@
 // What a row is asked for: its text, a part of the store, or the caller's own default; its date's milliseconds.
 
+#![tactic(auto)]
+
 ghost use Rattle.std.specs.Prelude.{◌≡◌};
 ghost use Rattle.format.specs.RowTest.{has_text};
 ghost use Rattle.format.specs.Unfold.{home, part};

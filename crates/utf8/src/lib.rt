@@ -2,6 +2,8 @@
 // a plain byte between characters, which stays there, is passed over without them. The states are those of specs/States.antt. Who stands above cites the contracts of
 // `step`, `run` and `valid`, and not how a step is taken.
 
+#![tactic(auto)]
+
 mod tables;
 
 ghost use Rattle.std.specs.Prelude.{◌≡◌, ◌≤◌, ◌<◌, length, drop};

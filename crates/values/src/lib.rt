@@ -1,6 +1,8 @@
 // The readers of a value, an array, an object, a vector and a dictionary, and the loops over their entries, in one cycle of calls over the remaining
 // depth.
 
+#![tactic(auto)]
+
 ghost use Rattle.scan.specs.Reads.{Reads};
 ghost use Rattle.std.specs.Prelude.{◌^◌, ◌<◌};
 ghost use Rattle.rows.specs.Memory.{no_key, col_count};

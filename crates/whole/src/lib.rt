@@ -1,5 +1,7 @@
 // The whole reading of a message.
 
+#![tactic(auto)]
+
 ghost use Rattle.std.specs.Prelude.{◌≡◌};
 ghost use Rattle.rows.specs.Memory.{at_entry, at_exit};
 ghost use Rattle.format.specs.Answers.{read, read_call};

@@ -1,6 +1,8 @@
 // The numbers of AMF 3 as they stand on the wire, from bytes and to bytes. Each function answers for every input, and what it
 // answers is its definition in specs/.
 
+#![tactic(auto)]
+
 pub mod markers;
 
 ghost use Rattle.std.specs.Prelude.{◌≡◌, false, not, ◌+◌, ◌≤◌, ◌<◌, ◌^◌, leb, length};

@@ -1,6 +1,8 @@
 // What a reading that waits goes on with once a word is whole: a string, a body, an object or an integer. The frames of the open values lie behind
 // `frames`, `depth` of them open.
 
+#![tactic(auto)]
+
 ghost use Rattle.resume.specs.Steps.{Steps};
 ghost use Rattle.rows.specs.Memory.{kept};
 ghost use Rattle.std.specs.Prelude.{◌≡◌, List, ℕ, ◌*◌, ◌^◌, ◌<◌, length};

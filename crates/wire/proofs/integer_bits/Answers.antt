@@ -1,0 +1,40 @@
+use native.Mathlib.Omega.{arith}
+use mathlib.Core.Path.{sym, ap, ◌∙◌}
+use Prim.Native.Nat.{ℕ, ◌%◌, ◌^◌}
+use Rattle.wire.proofs.Sign as sign
+use Rattle.wire.proofs.Steps as steps
+use Rattle.wire.specs.declared.Bits.TheVariants.{Of}
+use borrow.Author.Rules.{rules}
+use Rattle.wire.proofs.integer_bits.Goals as goal
+
+pub returns-then-v-lt-LEAST : goal.returns-then-v-lt-LEAST
+returns-then-v-lt-LEAST c = sym (steps.too_low c.ranges.v c.if-v-lt-LEAST.true)
+
+pub returns-then-v-gt-GREATEST : goal.returns-then-v-gt-GREATEST
+returns-then-v-gt-GREATEST c = sym (steps.too_high c.ranges.v c.if-v-gt-GREATEST.true)
+
+pub overflow_add-result : goal.overflow_add-result
+overflow_add-result c = steps.held (steps.raised_is c.ranges.v (steps.in_range c.ranges.v c.if-v-lt-LEAST.false
+    c.if-v-gt-GREATEST.false)) (omega (
+      arith,
+      steps.raised_lt c.args.v (steps.in_range c.ranges.v c.if-v-lt-LEAST.false
+          c.if-v-gt-GREATEST.false),
+    ))
+
+pub overflow_cast-result-2 : goal.overflow_cast-result-2
+overflow_cast-result-2 c = steps.cast (steps.raised_is c.ranges.v (steps.in_range c.ranges.v c.if-v-lt-LEAST.false
+    c.if-v-gt-GREATEST.false)) (omega (
+      arith,
+      steps.raised_lt c.args.v (steps.in_range c.ranges.v c.if-v-lt-LEAST.false
+          c.if-v-gt-GREATEST.false),
+    ))
+
+pub returns : goal.returns
+returns c = ap (λ (k : ℕ). Of (k % 2 ^ 29)) (steps.cast_is (steps.raised_is c.ranges.v (steps.in_range
+    c.ranges.v c.if-v-lt-LEAST.false c.if-v-gt-GREATEST.false)) (omega (
+      arith,
+      steps.raised_lt c.args.v (steps.in_range
+          c.ranges.v c.if-v-lt-LEAST.false c.if-v-gt-GREATEST.false),
+    ))) ∙ ap Of (steps.raised-bits c.args.v (steps.in_range
+    c.ranges.v c.if-v-lt-LEAST.false c.if-v-gt-GREATEST.false)) ∙ sym (sign.bits-of c.args.v (steps.in_range
+    c.ranges.v c.if-v-lt-LEAST.false c.if-v-gt-GREATEST.false))

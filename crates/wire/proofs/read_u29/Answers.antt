@@ -1,0 +1,30 @@
+use borrow.Author.Rules.{rules}
+use mathlib.Core.Path.{◌≡◌, refl, sym, ◌∙◌}
+use Prim.Native.Nat.{◌-◌}
+use lib.ListN.{length, drop}
+use Rattle.wire.specs.U29.{rest_of}
+use Rattle.wire.proofs.U29.{rest_end, rest_part, part-within}
+use Rattle.wire.proofs.read_u29.Goals as goal
+
+pub loop-p-init : goal.loop-p-init
+loop-p-init c = refl
+
+pub returns-in-Whole : goal.returns-in-Whole
+returns-in-Whole c = sym (c.loop-p.invariant ∙ rest_part c.args.src.now c.loop-p.p c.loop-p.left c.loop-p.n _ _ c.loop-p-test.true
+    c.u29_byte-x.ensures c.in-Whole.is)
+
+pub overflow_sub-left : goal.overflow_sub-left
+overflow_sub-left c = (part-within c.loop-p.left c.loop-p.n _ _ (c.type_inv.src c.loop-p.p).fits (sym
+    c.u29_byte-x.ensures ∙ c.in-More.is)).0
+
+pub loop-p-preserved : goal.loop-p-preserved
+loop-p-preserved c = c.loop-p.invariant ∙ rest_part c.args.src.now c.loop-p.p c.loop-p.left c.loop-p.n _ _ c.loop-p-test.true
+    c.u29_byte-x.ensures c.in-More.is
+
+pub returns-in-Astray : goal.returns-in-Astray
+returns-in-Astray c = sym (c.loop-p.invariant ∙ rest_part c.args.src.now c.loop-p.p c.loop-p.left c.loop-p.n _ _
+    c.loop-p-test.true c.u29_byte-x.ensures c.in-Astray.is)
+
+pub returns : goal.returns
+returns c = sym (c.loop-p.invariant ∙ rest_end c.args.src.now c.loop-p.p c.loop-p.left
+    c.loop-p.n c.loop-p-test.false)

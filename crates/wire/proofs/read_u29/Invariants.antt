@@ -1,0 +1,13 @@
+use borrow.Author.Rules.{rules}
+use mathlib.Core.Path.{◌≡◌, refl, sym, ◌∙◌}
+use Prim.Native.Nat.{◌-◌}
+use lib.ListN.{length, drop}
+use Rattle.wire.specs.U29.{rest_of}
+use Rattle.wire.proofs.U29.{rest_end, rest_part, part-within}
+use Rattle.wire.proofs.read_u29.Given as goal
+
+abbrev pub invariant-loop-p : goal.invariant-loop-p
+invariant-loop-p l = rest_of 3 0 (drop l.at l.src) l.at ≡ rest_of l.left l.n (drop l.p l.src) l.p
+
+abbrev pub decreases-loop-p : goal.decreases-loop-p
+decreases-loop-p l = length l.src - l.p
