@@ -5,7 +5,6 @@ use Prim.Native.Nat.{◌-◌, ◌≤◌}
 use lib.ListN.{length, drop}
 use Rattle.utf8.specs.States.{fold_of}
 use Rattle.utf8.proofs.Fold.{fold_plain}
-use borrow.Author.Tests.{leb-false}
 use Rattle.utf8.proofs.plain.Goals as goal
 
 pub loop-i-init : goal.loop-i-init
@@ -18,7 +17,7 @@ pub loop-i-preserved : goal.loop-i-preserved
 loop-i-preserved c = (
   omega arith,
   sym (fold_plain c.args.k c.loop-i.i _
-      c.if-k-ne-BETWEEN.false c.loop-i-test.true (leb-false _ _ c.if-s-i-ge-PAST_PLAIN.false)) ∙
+      c.if-k-ne-BETWEEN.false c.loop-i-test.true c.if-s-i-ge-PAST_PLAIN.false) ∙
       c.loop-i.invariant.1,
 )
 

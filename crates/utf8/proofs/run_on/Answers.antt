@@ -7,7 +7,6 @@ use Rattle.utf8.specs.States.{text_broken, fold_of}
 use Rattle.utf8.proofs.States.{step_le}
 use Rattle.utf8.proofs.Moves.{class-column, looked-up}
 use Rattle.utf8.proofs.Fold.{fold_step, fold_plain, fold_end}
-use borrow.Author.Tests.{ltb-true}
 use Rattle.utf8.proofs.run_on.Goals as goal
 
 pub loop-i-init : goal.loop-i-init
@@ -19,7 +18,7 @@ loop-i-preserved-then-b-lt-PAST_PLAIN c = (
   c.loop-i.invariant.1,
   c.loop-i.invariant.2 ∙ fold_plain
       c.loop-i.at c.loop-i.i _ c.if-at-eq-BETWEEN.true
-      c.loop-i-test.true (ltb-true _ _ c.if-b-lt-PAST_PLAIN.true),
+      c.loop-i-test.true c.if-b-lt-PAST_PLAIN.true,
 )
 
 pub moved-at-requires : goal.moved-at-requires
