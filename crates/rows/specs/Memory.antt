@@ -1,7 +1,7 @@
 -- The lent memory of a reading: six loans as lists of numbers, and a cursor that says how much of each is used.
 use Rattle.std.specs.Prelude.{Bool, true, false, cond, not, ◌&&◌, ◌||◌, List, [], ◌∷◌, ℕ, zero, suc, ◌+◌, ◌*◌, ◌/◌, ◌%◌, leb, ltb, eqb, length, get_or, set, replicate}
 use Rattle.std.proofs.lemmas.List.Edits.{sets}
-use Rattle.std.specs.Borrow.{Bor}
+use Rattle.std.specs.Borrow.{MutBor}
 use denote.Triple.Both.{Both}
 use Rattle.rows.specs.declared.Cursor.{Cursor}
 use Rattle.rows.specs.declared.Span.{Span}
@@ -163,11 +163,11 @@ memory R B T O U N = record { rows = R; store = B; strings = T; objects = O; tra
 
 -- a loan of a call: as it is lent and as it comes back
 abbrev pub Loan : Type 0
-Loan = Both (Bor (List ℕ)) (Bor (List ℕ))
+Loan = Both (MutBor (List ℕ)) (MutBor (List ℕ))
 
 -- one that the call isn't lent
 abbrev pub kept : List ℕ → Loan
-kept l = let r : Bor (List ℕ) = record { ref_ptr = (0, 0); now = l } in record { entry = r; exit = r }
+kept l = let r : MutBor (List ℕ) = record { ref_ptr = (0, 0); ghost_name = 0; now = l } in record { entry = r; exit = r }
 
 -- the six loans at the call's entry, and at its exit
 abbrev pub at_entry : Loan → Loan → Loan → Loan → Loan → Loan → Memory
