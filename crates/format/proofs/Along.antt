@@ -8,7 +8,7 @@ use native.Mathlib.Omega.{arith}
 use native.Mathlib.Nat.{add-zero, add_assoc, le_refl, le_of_lt}
 use native.Mathlib.Numerals.{add-one}
 use native.Mathlib.Decide.{dec_lt}
-use borrow.Author.Rules.{zero≤}
+use Prim.Native.Nat.{zero-le}
 use lib.Dec.{T, leb, eqb, lit<, lit≤}
 use borrow.Author.Tests.{leb-true, leb-false, le-leb, eq-eqb}
 use lib.ListN.{length, length-replicate}
@@ -79,7 +79,7 @@ word-begins = (le_refl _, lit< tt)
 number-begins : PartIn number_more number_bits number_more 0
 number-begins = (le_refl _, lit< tt)
 
-ruleset used = (row_up, span-up, names-up, use_up, text-up, word-up, number_up, word-begins, number-begins, step_le, paired, zero≤, le_refl, le_of_lt, tt)
+ruleset used = (row_up, span-up, names-up, use_up, text-up, word-up, number_up, word-begins, number-begins, step_le, paired, zero-le, le_refl, le_of_lt, tt)
 
 -- what a refusal leaves: 1 the loans as found, any other one all of them zero
 pub data Left : ℕ → Memory → Type 0 where
@@ -188,7 +188,7 @@ module _ {B : Type 0} (w : ℕ) (few : B → w < 2 ^ 29) where
 
 -- a new trait's first name is none or the next
 trait_first : (s : Span) (n y : ℕ) (c : Cursor) → (trait_of s n y c).first ≤ c.names
-trait_first s n y c = on_bool (eqb n 0) (λ e. rw e zero≤) (λ e. rw e (le_refl _))
+trait_first s n y c = on_bool (eqb n 0) (λ e. rw e zero-le) (λ e. rw e (le_refl _))
 
 -- ---- after a byte
 
@@ -305,14 +305,14 @@ module _ {B : Type 0} {lent : Lent} {at : ℕ} (ts : List Frame) (fits : length 
   good-string : (u : Use) (z : Size) (c : Cursor) (m : Memory) → Holds lent (suc at) c m → UseIn u c → OldIn B z → Able B lent (suc at) (string_sized ts u z c m)
   unfolding string_sized
   good-string u (Old i) c m h has few = search (good, good-given SpanIn, keeps-old-text, good-had)
-  good-string u (New zero) c m h has few = good-had u no_span c m h has zero≤
+  good-string u (New zero) c m h has few = good-had u no_span c m h has zero-le
   good-string u (New (suc n)) c m h has few = good-reserved (suc n) _ c m h (λ s d m h v sp room. search (good, keeps_use) depth 8)
 
   good-room : (row n : ℕ) (f : Span → Cursor → Memory → State) (c : Cursor) (m : Memory) → Holds lent (suc at) c m
       → ((s : Span) (d : Cursor) (m : Memory) → Holds lent (suc at) d m → Grows c d → SpanIn s d → n ≤ s.size → Able B lent (suc at) (f s d m))
       → Able B lent (suc at) (roomy row n c m f)
   unfolding roomy
-  good-room row zero f c m h g = g no_span c m h (grows_same c) zero≤ zero≤
+  good-room row zero f c m h g = g no_span c m h (grows_same c) zero-le zero-le
   good-room row (suc n) f c m h g = good-reserved (suc n) _ c m h (λ s d m h v sp room. search (good, grows-on, keeps-bodied) depth 8)
 
   good-texting : (row : ℕ) (s : Span) (n : ℕ) (c : Cursor) (m : Memory) → Holds lent (suc at) c m → RowIn row c → SpanIn s c → n ≤ s.size
@@ -461,8 +461,9 @@ takes s (b ∷ bs) = cost_from s (step b s) + takes (step b s) bs
 pub able_run : {B : Type 0} {lent : Lent} {at : ℕ} (s : State) (bs : List ℕ) → Able B lent at s → Able (B × Bytes bs) lent (at + takes s bs) (run s bs)
 unfolding run takes
 able_run s [] g = rw add-zero (able_less s (λ (t, o). t) g)
-able_run s (b ∷ bs) g =
-    rw (← add_assoc) (able_less (run (step b s) bs) (λ (t, o). ((t, o 0), λ i. o (suc i))) (able_run (step b s) bs (able_step b s g)))
+able_run {B} {lent} {at} s (b ∷ bs) g =
+    rw (← add_assoc) (able_less (run (step b s) bs) (λ (t, o). ((t, o 0), λ i. o (suc i)))
+      (able_run {B = B × b < 2 ^ 8} {at = at + cost_from s (step b s)} (step b s) bs (able_step b s g)))
 
 pub good-run : {lent : Lent} {at : ℕ} (s : State) (bs : List ℕ) → Bytes bs → Good lent at s → Good lent (at + takes s bs) (run s bs)
 good-run s bs o g = able_good (run s bs) (tt, o) (able_run s bs (good_able s g))
@@ -495,7 +496,7 @@ good-begin-at : (m : Memory) (fault : ℕ) → fault_of m ≡ fault → Good (le
 unfolding lent_of
 good-begin-at m zero e =
     let fits : 0 ≤ open_limit = omega arith in
-    let used : KeyIn no_key fresh = λ h. zero≤ in
+    let used : KeyIn no_key fresh = λ h. zero-le in
     waits {c = fresh} (record { lends = lends-zeroed _ m refl; clean = e; place = refl; within = omega arith; counts = omega arith }) fits used
 good-begin-at m (suc loan) e = declines (fault-sayable m loan e) refl found
 

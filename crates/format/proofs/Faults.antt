@@ -60,10 +60,10 @@ bad-span B b s e = on_bool (eqb s 0)
     (λ z. empty_past (eqb-true s 0 z) (above b (rw z at e)))
     (λ z. past (above s z) (leb-false (b + s) (length B) (rw z at e)))
 
-span_fits : (B : List ℕ) (b s : ℕ) → span_fits B b s ≡ true → BadSpan B b s → ⊥
+span-fits : (B : List ℕ) (b s : ℕ) → span_fits B b s ≡ true → BadSpan B b s → ⊥
 unfolding span_fits
-span_fits B b s e (past l h) = (let z : eqb s 0 ≡ false = ne_eqb s 0 (λ q. omega arith) in let k = leb-true (b + s) (length B) (rw z at e) in omega arith)
-span_fits B b s e (empty_past q h) = (let k = eqb-true b 0 (rw (eq-eqb s 0 q) at e) in omega arith)
+span-fits B b s e (past l h) = (let z : eqb s 0 ≡ false = ne_eqb s 0 (λ q. omega arith) in let k = leb-true (b + s) (length B) (rw z at e) in omega arith)
+span-fits B b s e (empty_past q h) = (let k = eqb-true b 0 (rw (eq-eqb s 0 q) at e) in omega arith)
 
 bad-mark : (B : List ℕ) (m b s : ℕ) → mark_fits B m b s ≡ false → BadMark B m b s
 unfolding mark_fits
@@ -85,7 +85,7 @@ mark-fits B m b s e (unmarked q h) =
     omega arith
 mark-fits B m b s e (marked q h) =
     let z : eqb m 0 ≡ false = ne_eqb m 0 (λ p. omega arith) in
-    span_fits B b s (both (eqb m 1) (span_fits B b s) (rw z at e)).1 h
+    span-fits B b s (both (eqb m 1) (span_fits B b s) (rw z at e)).1 h
 
 -- ---- numbers
 
@@ -307,7 +307,7 @@ module _ (R B : List ℕ) (i : ℕ) where
   none_of h (why.bad_key l) = mark-fits B (col R i col_key_mark) (col R i col_key_begin) (col R i col_key_size) h.key l
   none_of h (why.bad_class c l) = mark-fits B (col R i col_class_mark) (col R i col_body_begin) (col R i col_body_size) (class-fits c h.columns) l
   none_of h (why.bad_flag l) = let k = leb-true (col R i col_flag) 1 (columns-fit h.columns).2 in omega arith
-  none_of h (why.bad_body c l) = span_fits B (col R i col_body_begin) (col R i col_body_size) (body-fits c h.columns).2 l
+  none_of h (why.bad_body c l) = span-fits B (col R i col_body_begin) (col R i col_body_size) (body-fits c h.columns).2 l
   none_of h (why.no_class c l) = let k = eqb-true (col R i col_class_mark) 0 (body-fits c h.columns).0 in omega arith
   none_of h (why.no_body c q l) = is_zero (has_body (col R i col_kind)) (col R i col_body_size) (body-fits c h.columns).1 q l
   none_of h (why.no_flag q l) = is_zero (has_flag (col R i col_kind)) (col R i col_flag) (columns-fit h.columns).1 q l

@@ -254,15 +254,16 @@ pub shows-run : {lent : Lent} {at : ℕ} (s : State) (h : Held) (bs : List ℕ) 
     → Shows lent (at + takes s bs) (run s bs) (run_held h bs)
 unfolding run takes run_held
 shows-run s h [] o k = rw add-zero k
-shows-run s h (b ∷ bs) o k = rw (← add_assoc) (shows-run (step b s) (byte_step b h) bs (λ i. o (suc i)) (shows-step b s h (o 0) k))
+shows-run {at} s h (b ∷ bs) o k =
+    rw (← add_assoc) (shows-run {at = at + cost_from s (step b s)} (step b s) (byte_step b h) bs (λ i. o (suc i)) (shows-step b s h (o 0) k))
 
 -- the bytes taken are those that the run takes
 pub taken-run : {lent : Lent} {at : ℕ} (s : State) (h : Held) (bs : List ℕ) → Bytes bs → Shows lent at s h → taken_by h bs ≡ takes s bs
 unfolding takes taken_by
 taken-run s h [] o k = refl
-taken-run s h (b ∷ bs) o k =
+taken-run {at} s h (b ∷ bs) o k =
     let l = shows-step b s h (o 0) k in
-    rw (k.shown, l.shown, taken-run (step b s) (byte_step b h) bs (λ i. o (suc i)) l)
+    rw (k.shown, l.shown, taken-run {at = at + cost_from s (step b s)} (step b s) (byte_step b h) bs (λ i. o (suc i)) l)
 
 -- the numbers that the first call leaves show the beginning
 pub shows-begin : (m : Memory) → Shows (lent_of m) 0 (begin m) (after_step (blank (lent_of m)) (begin m))

@@ -45,9 +45,9 @@ module _ (R C B : List ℕ) (i j k : ℕ) (same : (n : ℕ) → n < row_width �
   same_body = rw (same 4 (omega arith), same 5 (omega arith), same 6 (omega arith))
 
 module _ (L : Land) (room : L.full ≤ length L.store) where
-  span_fits : (b z : ℕ) → Within L (span b z) → span_fits L.store b z ≡ true
+  span-fits : (b z : ℕ) → Within L (span b z) → span_fits L.store b z ≡ true
   unfolding span_fits
-  span_fits b z h = on_bool (eqb z 0) (λ e. rw e (eq-eqb b 0 (h.empty (eqb-true z 0 e))))
+  span-fits b z h = on_bool (eqb z 0) (λ e. rw e (eq-eqb b 0 (h.empty (eqb-true z 0 e))))
       (λ e. rw e (le-leb (b + z) (length L.store) (let i = h.inside in omega arith)))
 
   none-fits : span_fits L.store 0 0 ≡ true
@@ -57,8 +57,8 @@ module _ (L : Land) (room : L.full ≤ length L.store) where
   mark-fits : {g : Given} {k : Key} → Meets L g k → mark_fits L.store k.mark k.begin k.size ≡ true
   unfolding mark_fits
   mark-fits bare = refl
-  mark-fits (named v) = span_fits _ _ v.within
-  mark-fits (long v l) = span_fits _ _ v.within
+  mark-fits (named v) = span-fits _ _ v.within
+  mark-fits (long v l) = span-fits _ _ v.within
 
   key-valid : {g : Given} {k : Key} → Meets L g k → valid_text (part L.store k.begin k.size) ≡ true
   unfolding part valid_text follow
@@ -81,18 +81,18 @@ module _ (L : Land) (room : L.full ≤ length L.store) where
   own m b z (number (integer h) e) = record { low = refl; high = refl; columns = rw none-fits; body = refl }
   own m b z (number double e) = record { low = refl; high = refl; columns = rw none-fits; body = refl }
   own m b z (number (date f) e) = record { low = refl; high = refl; columns = rw none-fits; body = refl }
-  own m b z (text string v e) = record { low = refl; high = refl; columns = rw (span_fits _ _ v.within); body = v.text }
-  own m b z (text xml_document v e) = record { low = refl; high = refl; columns = rw (span_fits _ _ v.within); body = v.text }
-  own m b z (text xml v e) = record { low = refl; high = refl; columns = rw (span_fits _ _ v.within); body = v.text }
-  own m b z (bytes v e) = record { low = refl; high = refl; columns = rw (span_fits _ _ v); body = refl }
-  own m b z (raw ints v w f e) = record { low = refl; high = refl; columns = rw (span_fits _ _ v, le-leb _ 1 f); body = refl }
-  own m b z (raw uints v w f e) = record { low = refl; high = refl; columns = rw (span_fits _ _ v, le-leb _ 1 f); body = refl }
-  own m b z (raw doubles v w f e) = record { low = refl; high = refl; columns = rw (span_fits _ _ v, le-leb _ 1 f); body = refl }
+  own m b z (text string v e) = record { low = refl; high = refl; columns = rw (span-fits _ _ v.within); body = v.text }
+  own m b z (text xml_document v e) = record { low = refl; high = refl; columns = rw (span-fits _ _ v.within); body = v.text }
+  own m b z (text xml v e) = record { low = refl; high = refl; columns = rw (span-fits _ _ v.within); body = v.text }
+  own m b z (bytes v e) = record { low = refl; high = refl; columns = rw (span-fits _ _ v); body = refl }
+  own m b z (raw ints v w f e) = record { low = refl; high = refl; columns = rw (span-fits _ _ v, le-leb _ 1 f); body = refl }
+  own m b z (raw uints v w f e) = record { low = refl; high = refl; columns = rw (span-fits _ _ v, le-leb _ 1 f); body = refl }
+  own m b z (raw doubles v w f e) = record { low = refl; high = refl; columns = rw (span-fits _ _ v, le-leb _ 1 f); body = refl }
   own m b z (array p q) = record { low = refl; high = refl; columns = rw none-fits; body = refl }
   own m b z (object classless p q) = record { low = refl; high = refl; columns = refl; body = refl }
-  own m b z (object (class v l) p q) = record { low = refl; high = refl; columns = rw (span_fits _ _ v.within); body = rw (v.text, lt-ltb 0 _ l) }
+  own m b z (object (class v l) p q) = record { low = refl; high = refl; columns = rw (span-fits _ _ v.within); body = rw (v.text, lt-ltb 0 _ l) }
   own m b z (vector classless f p) = record { low = refl; high = refl; columns = rw (le-leb _ 1 f); body = refl }
-  own m b z (vector (class v l) f p) = record { low = refl; high = refl; columns = rw (span_fits _ _ v.within, le-leb _ 1 f); body = rw (v.text, l) }
+  own m b z (vector (class v l) f p) = record { low = refl; high = refl; columns = rw (span-fits _ _ v.within, le-leb _ 1 f); body = rw (v.text, l) }
   own m b z (dictionary f p) = record { low = refl; high = refl; columns = rw (none-fits, le-leb _ 1 f); body = refl }
   own m b z (reference l d h o e) = record { low = refl; high = refl; columns = rw none-fits; body = refl }
 

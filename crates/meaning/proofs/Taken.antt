@@ -42,7 +42,7 @@ module _ (v : ℕ) where
       let p : x ≡ v = cc in
       rw (none_left xs (omega arith)) (goes-ret p)
 
-  part-goes : {x : Part} (left n b at : ℕ) (xs : List ℕ) (f : ℕ → Reader ℕ) → Step left n b x
+  part-goes : (left n b at : ℕ) {x : Part} (xs : List ℕ) (f : ℕ → Reader ℕ) → Step left n b x
       → ((m : ℕ) → 0 < left → rest_of (left - 1) m xs (at + 1) ≡ Value v (at + 1 + length xs) → Goes (λ (y : ℕ). y ≡ v) (f m) xs nothing)
       → go_on (λ m. rest_of (left - 1) m xs (at + 1)) (at + 1) x ≡ Value v (at + suc (length xs)) → Goes (λ (y : ℕ). y ≡ v) (on_part f x) xs nothing
   part-goes left n b at xs f (astray a) go e = clash cc

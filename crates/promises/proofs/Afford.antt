@@ -211,7 +211,7 @@ module _ (F : Tree → Type 0) (spent : Room) (x : Trait) (t : Traits) (f : Read
           h.pays T m₀ c₀ k _ _ (std.with_traits t s) p bs
           (λ l y i. (let j = u l (room 0 0 0 0 1 0 and y) (omega arith) in omega (arith, length-sets m.traits (c.traits * trait_width) (numbers x)))) e
           (small_trait m c s z x t (omega arith) kin.1 kin.0)
-      either T m₀ c₀ k m c s p bs u e z fit false = paid-lost of_tree F Both T m₀ c₀ m (g t (std.with_traits t s) p bs)
+      either T m₀ c₀ k m c s p bs u e z fit false = paid-lost {A = Unit} of_tree F Both T m₀ c₀ m (g t (std.with_traits t s) p bs)
 
 -- ---- room for a body
 

@@ -156,6 +156,10 @@ finds zero (o ∷ os) m f h had i parts rest some e b w l = absurd (omega arith)
 finds (suc n) [] m f h [] zero parts rest nothing e b w l = none-to_come (suc n) m parts rest e
 finds (suc n) (o ∷ os) m f h had i [] rest some e b w l =
     absurd (rw (sym (append-nil had) ∙ e ∙ append_assoc (order_bytes o) (back_to_back os) rest, order-runs o (back_to_back os ++ rest) m f h.0) at w)
+finds zero [] m f h [] (suc i) parts rest x e b w l = elim x [ ]
+finds zero [] m f h (a ∷ had) i parts rest x e b w l = elim x [ ]
+finds (suc n) [] m f h [] (suc i) parts rest x e b w l = elim x [ ]
+finds (suc n) [] m f h (a ∷ had) i parts rest x e b w l = elim x [ ]
 finds (suc n) (o ∷ os) m f h had i (piece ∷ pieces) rest some e b w l =
     let x : List ℕ = had ++ piece in
     let q : x ++ joined pieces ≡ back_to_back (o ∷ os) ++ rest = append_assoc had piece (joined pieces) ∙ e in

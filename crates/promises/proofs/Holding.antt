@@ -5,7 +5,7 @@ use mathlib.Core.Logic.{◌≢◌}
 use mathlib.Core.List.{List, [], ◌∷◌}
 use Prim.Native.Nat.{ℕ, ◌+◌, ◌^◌, ◌<◌}
 use native.Mathlib.Omega.{arith}
-use borrow.Author.Rules.{zero≤}
+use Prim.Native.Nat.{zero-le}
 use Rattle.rows.specs.declared.Cursor.{Cursor}
 use Rattle.rows.specs.declared.Trait.{Trait}
 use Rattle.rows.specs.Memory.{Memory, fresh, zeroed, fault_of, no_key, span_at}
@@ -90,10 +90,10 @@ first_holds m e =
       together = record {
         loans = q;
         clean = sym (fault-in (zeroed m)) ∙ ap fault_in q ∙ fault-in m ∙ e;
-        within = zero≤;
-        open_fits = zero≤;
-        counts = (((((zero≤, zero≤), zero≤), zero≤), zero≤), zero≤);
-        works = λ l. zero≤;
+        within = zero-le;
+        open_fits = zero-le;
+        counts = (((((zero-le, zero-le), zero-le), zero-le), zero-le), zero-le);
+        works = λ l. zero-le;
         pairs = tt;
       };
       frames = tt;

@@ -186,7 +186,8 @@ pub stands-run : {Begun : Type 0} {Byte : ℕ → Type 0} {at : ℕ} (h : Held) 
     → Stands Begun Byte (at + taken_by h bs) (state_in (run_held h bs))
 unfolding run_held taken_by
 stands-run h [] last w = rw add-zero w
-stands-run h (b ∷ bs) (next y ys) w = rw (← add_assoc) (stands-run (byte_step b h) bs ys (stands-byte b h y w))
+stands-run {at} h (b ∷ bs) (next y ys) w =
+    rw (← add_assoc) (stands-run {at = at + cost_from (state_in h) (state_in (byte_step b h))} (byte_step b h) bs ys (stands-byte b h y w))
 
 -- a byte on a state that has not ended
 going-stepped : {Byte : ℕ → Type 0} (b : ℕ) (n : Numbers) (m : Memory) (s : State) → Byte b → Going s

@@ -7,7 +7,7 @@ use mathlib.Core.List.{List, []}
 use Prim.Native.Nat.{ℕ, zero, suc, ◌+◌, ◌-◌, ◌/◌, ◌^◌, ◌<◌}
 use native.Mathlib.Omega.{arith}
 use native.Mathlib.Decide.{dec_lt}
-use borrow.Author.Rules.{zero≤}
+use Prim.Native.Nat.{zero-le}
 use borrow.Author.Tests.{eqb-true, ne_eqb}
 use lib.Dec.{T, ltb, eqb}
 use lib.ListN.{length}
@@ -206,7 +206,7 @@ module _ {w : Watch} (ts : List Frame) where
   twin_had (for_key p) s c m h b l z sp = twin_keyed p s s.size c m h l
   twin_had (for_class row n y) s c m h b l z sp =
       twin_on m (sure_object h row (trait_of s n y c) l) (λ x d k a v q.
-      twin_naming row (trait_of s n y c) n d k a l (λ e f. absurd (f (span-up v s sp, rw e zero≤))) (λ e y rt o d' k' h' l' f. absurd (omega arith)))
+      twin_naming row (trait_of s n y c) n d k a l (λ e f. absurd (f (span-up v s sp, rw e zero-le))) (λ e y rt o d' k' h' l' f. absurd (omega arith)))
   twin_had for_external s c m h b l z sp = declines tt
   twin_had (for_name row t n) s c m h b l z sp = twin_named row t n s c m h b l z sp
   twin_had (for_vector row n) s c m h b l z sp =
@@ -375,7 +375,7 @@ module _ (b : ℕ) (ts : List Frame) (c : Cursor) (m : Memory) where
         twin_on ts m (sure_old-text h i (λ o f. out.string_entry e q o f)) (λ s d k a v ((sp, g), (o, r)).
         twin_had ts u s d k a (g (still (at_word (text_word u) left part))) l (makes_word u left part (by_number e q o)) sp)
     twin_string u (New zero) q h l =
-        twin_had ts u no_span (taken c) m h (still (at_word (text_word u) left part)) l (makes_word u left part (by_none e q)) zero≤
+        twin_had ts u no_span (taken c) m h (still (at_word (text_word u) left part)) l (makes_word u left part (by_none e q)) zero-le
     twin_string u (New (suc k)) q h l = twin_on ts m (sure_reserved h (suc k)) (λ s d k a v q. twin_use ts u s d k _ _ a l (λ x e j. waits))
 
     -- a size word is whole
