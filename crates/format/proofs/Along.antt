@@ -463,7 +463,7 @@ unfolding run takes
 able_run s [] g = rw add-zero (able_less s (λ (t, o). t) g)
 able_run {B} {lent} {at} s (b ∷ bs) g =
     rw (← add_assoc) (able_less (run (step b s) bs) (λ (t, o). ((t, o 0), λ i. o (suc i)))
-      (able_run {B = B × b < 2 ^ 8} {at = at + cost_from s (step b s)} (step b s) bs (able_step b s g)))
+    (able_run {B = B × b < 2 ^ 8} {at = at + cost_from s (step b s)} (step b s) bs (able_step b s g)))
 
 pub good-run : {lent : Lent} {at : ℕ} (s : State) (bs : List ℕ) → Bytes bs → Good lent at s → Good lent (at + takes s bs) (run s bs)
 good-run s bs o g = able_good (run s bs) (tt, o) (able_run s bs (good_able s g))
