@@ -52,59 +52,59 @@ const MARKER_LAST: usize = MARKER_DICTIONARY;
 
 // ---- answers
 
-#[derive(Drop)]
+#[derive(Clone, Copy)]
 pub struct Refusal {
     pub number: usize,
     pub told: usize,
     pub place: usize,
 }
 
-#[derive(Drop)]
+#[derive(Clone, Copy)]
 pub enum Done {
     Fine(Cursor),
     Refused(Refusal),
 }
 
 // A row for a new value.
-#[derive(Drop)]
+#[derive(Clone, Copy)]
 pub enum Begun {
     Row(usize, Cursor),
     No(Refusal),
 }
 
-#[derive(Drop)]
+#[derive(Clone, Copy)]
 pub enum Text {
     Have(Span, Cursor),
     No(Refusal),
 }
 
-#[derive(Drop)]
+#[derive(Clone, Copy)]
 pub enum Traited {
     Known(Trait, Cursor),
     No(Refusal),
 }
 
-#[derive(Drop)]
+#[derive(Clone, Copy)]
 pub enum Keyed {
     With(Key, Cursor),
     No(Refusal),
 }
 
-#[derive(Drop)]
+#[derive(Clone, Copy)]
 pub enum Whether {
     Is(bool, Cursor),
     No(Refusal),
 }
 
 // The bytes of a raw vector's entry.
-#[derive(Drop)]
+#[derive(Clone, Copy)]
 pub enum Width {
     Four,
     Eight,
 }
 
 // What follows a marker: nothing; a U29; eight bytes; a string; an object word; or a size word.
-#[derive(Drop)]
+#[derive(Clone, Copy)]
 pub enum Kind {
     Leaf,
     Integer,
@@ -115,7 +115,7 @@ pub enum Kind {
 }
 
 // What the size word of a value is of.
-#[derive(Drop)]
+#[derive(Clone, Copy)]
 pub enum Body {
     Xml,
     Date,

@@ -25,7 +25,7 @@ pub const FRAMES_SIZE: usize = OPEN_LIMIT * FRAME_WIDTH;
 pub type Frames = [usize; FRAMES_SIZE];
 
 // What a reading answers: it waits; it is finished, with so many rows and store bytes used; or it is refused. `taken` counts bytes taken.
-#[derive(Drop)]
+#[derive(Clone, Copy)]
 pub enum Answer {
     Waiting {
         taken: usize,
@@ -44,7 +44,7 @@ pub enum Answer {
 }
 
 // What a writing answers: so many bytes written, or refused.
-#[derive(Drop)]
+#[derive(Clone, Copy)]
 pub enum Written {
     Bytes(usize),
     Unwritten {
@@ -56,7 +56,7 @@ pub enum Written {
 
 // The lengths of the loans at the beginning.
 #[repr(C)]
-#[derive(Drop)]
+#[derive(Clone, Copy)]
 pub struct Lent {
     pub rows: usize,
     pub store: usize,
@@ -68,7 +68,7 @@ pub struct Lent {
 
 // What the next byte is for: a mode and the numbers that it works with.
 #[repr(C)]
-#[derive(Drop)]
+#[derive(Clone, Copy)]
 pub struct Work {
     pub mode: usize,
     pub purpose: usize,
@@ -83,7 +83,7 @@ pub struct Work {
 
 // A state beside its frames: whether it waits, a refusal, the loans' lengths, what is used, how many values are open, and the work.
 #[repr(C)]
-#[derive(Drop)]
+#[derive(Clone, Copy)]
 pub struct Head {
     pub status: usize,
     pub number: usize,
@@ -96,7 +96,7 @@ pub struct Head {
 }
 
 // What an open value still has to read.
-#[derive(Drop)]
+#[derive(Clone, Copy)]
 pub struct Frame {
     pub task: usize,
     pub row: usize,

@@ -42,14 +42,14 @@ const STAR_SIZE: usize = 1;
 // ---- answers
 
 // All rows pass; or the least faulty one, by which refusal.
-#[derive(Drop)]
+#[derive(Clone, Copy)]
 pub enum Judged {
     Fine,
     Faulty { no: usize, row: usize },
 }
 
 // What a row is given: no key, a key, a key that is not empty.
-#[derive(Drop)]
+#[derive(Clone, Copy)]
 enum Gift {
     Keyless,
     Keyed,
@@ -57,7 +57,7 @@ enum Gift {
 }
 
 // The children of a row end with it, and these are now the least rows with a wrong mark and with an empty key; or they don't.
-#[derive(Drop)]
+#[derive(Clone, Copy)]
 enum Walked {
     Closed(usize, usize),
     Broken,

@@ -24,7 +24,7 @@ use wire::{Shape, Size};
 // ---- answers
 
 // After a size word: a new value of a size is to be read, or a reference is over.
-#[derive(Drop)]
+#[derive(Clone, Copy)]
 pub enum Sized {
     New(usize, Cursor),
     Over(Cursor),
@@ -32,7 +32,7 @@ pub enum Sized {
 }
 
 // After an object's word and trait: its members are to be read, or a reference is over.
-#[derive(Drop)]
+#[derive(Clone, Copy)]
 pub enum Classed {
     Of(Trait, Cursor),
     Over(Cursor),

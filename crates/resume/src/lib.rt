@@ -26,7 +26,7 @@ use rows::{Cursor, Key, Span, Trait, columns};
 // ---- answers
 
 // It waits, with so many values open; a value that stands in no other is finished; or it is refused.
-#[derive(Drop)]
+#[derive(Clone, Copy)]
 pub enum Next {
     Wait(Work, Cursor, usize),
     Finished(Cursor),
@@ -34,7 +34,7 @@ pub enum Next {
 }
 
 // What a task has left, its entry counted.
-#[derive(Drop)]
+#[derive(Clone, Copy)]
 pub enum Entry {
     On(Frame, Cursor),
     No(Refusal),

@@ -51,7 +51,7 @@ pub const TRAIT_COUNT: usize = 4;
 
 // The bytes taken, and how many entries of each loan are used.
 #[repr(C)]
-#[derive(Drop)]
+#[derive(Clone, Copy)]
 pub struct Cursor {
     pub at: usize,
     pub rows: usize,
@@ -64,14 +64,14 @@ pub struct Cursor {
 
 // A part of the byte store.
 #[repr(C)]
-#[derive(Drop)]
+#[derive(Clone, Copy)]
 pub struct Span {
     pub begin: usize,
     pub size: usize,
 }
 
 // The key of a row: mark 0 is none.
-#[derive(Drop)]
+#[derive(Clone, Copy)]
 pub struct Key {
     pub mark: usize,
     pub begin: usize,
@@ -80,7 +80,7 @@ pub struct Key {
 
 // An entry of the traits: the class, whether it is dynamic, its first name in the names, how many there are.
 #[repr(C)]
-#[derive(Drop)]
+#[derive(Clone, Copy)]
 pub struct Trait {
     pub begin: usize,
     pub size: usize,
@@ -90,7 +90,7 @@ pub struct Trait {
 }
 
 // A row's columns.
-#[derive(Drop)]
+#[derive(Clone, Copy)]
 pub struct Row {
     pub kind: usize,
     pub key: Key,

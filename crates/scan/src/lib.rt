@@ -19,7 +19,7 @@ use wire::{Read, Size};
 
 // ---- answers
 
-#[derive(Drop)]
+#[derive(Clone, Copy)]
 pub enum Number {
     Whole(usize, Cursor),
     No(Refusal),

@@ -12,7 +12,7 @@ use rows::{Span, kinds};
 use wire::Moment;
 
 // The span of a row's text, or there is none.
-#[derive(Drop)]
+#[derive(Clone, Copy)]
 pub enum Found {
     Nowhere,
     At(Span),

@@ -17,21 +17,21 @@ ghost use Rattle.wire.specs.Big.{number_at, digit_of, bytes_of};
 ghost use Rattle.wire.specs.Date.{refused_date, moment_of, bounded};
 
 // A number read at a place, with the place behind it.
-#[derive(Drop)]
+#[derive(Clone, Copy)]
 pub enum Read {
     Value(usize, usize),
     Short,
 }
 
 // The place behind the bytes that were put; or they had no room, and none was put.
-#[derive(Drop)]
+#[derive(Clone, Copy)]
 pub enum Put {
     At(usize),
     Full,
 }
 
 // The bits of a number, if it has any in its range.
-#[derive(Drop)]
+#[derive(Clone, Copy)]
 pub enum Bits {
     Of(usize),
     Outside,
@@ -50,7 +50,7 @@ pub fn fits(len: usize, at: usize, count: usize) -> bool
 // ---- U29
 
 // What is known of a number after one byte more; astray where the numbers in hand are no part of one.
-#[derive(Drop)]
+#[derive(Clone, Copy)]
 pub enum Part {
     More(usize),
     Whole(usize),
@@ -145,7 +145,7 @@ pub fn put_u29(out: &mut [u8], at: usize, n: usize) -> Put
 // ---- size words
 
 // A reference by number, or a length.
-#[derive(Drop)]
+#[derive(Clone, Copy)]
 pub enum Size {
     Old(usize),
     New(usize),
@@ -161,7 +161,7 @@ pub fn size_of(w: usize) -> Size
 }
 
 // An object by number; a new one of a known trait, of an externalizable class, or of a trait with so many names, dynamic (1) or not.
-#[derive(Drop)]
+#[derive(Clone, Copy)]
 pub enum Shape {
     Object(usize),
     Known(usize),
@@ -337,7 +337,7 @@ pub fn put_be32(out: &mut [u8], at: usize, n: usize) -> Put
 // ---- dates
 
 // Milliseconds, or bits that no date has.
-#[derive(Drop)]
+#[derive(Clone, Copy)]
 pub enum Moment {
     None,
     At(i64),

@@ -24,7 +24,7 @@ use rows::{OPEN_LIMIT, kinds, loans};
 use wire::markers;
 
 // The place behind what was put; or the refusal's number, and the place where the bytes stopped.
-#[derive(Drop)]
+#[derive(Clone, Copy)]
 pub enum Put {
     At(usize),
     Stop { no: usize, place: usize },
