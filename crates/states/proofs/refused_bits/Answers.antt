@@ -1,0 +1,7 @@
+use native.Mathlib.Omega.{arith}
+use Rattle.states.proofs.Told.{bits-refused}
+use borrow.Author.Rules.{rules}
+use Rattle.states.proofs.refused_bits.Goals as goal
+
+pub returns : goal.returns
+returns c = bits-refused c.args.bits (omega arith) c.is_date.ensures
