@@ -1,3 +1,5 @@
+use mathlib.Core.Path.{ap}
+use mathlib.Core.Bool.{not}
 use lib.Dec.{ltb}
 use Rattle.rows.specs.Memory.{open_limit}
 use Rattle.states.proofs.Depths.{marker-depth, first_fails, first_holds}
@@ -11,9 +13,9 @@ returns-then-w-eq-MARKER c = marker-depth c.args.w c.args.depth c.if-w-eq-MARKER
 pub returns-then-not-at_work : goal.returns-then-not-at_work
 unfolding open_limit
 returns-then-not-at_work c = first_fails _ (ltb c.args.depth 64) c.at_work.result (c.at_work.ensures
-    c.if-w-eq-MARKER.false c.args.depth) c.if-not-at_work.true
+    c.if-w-eq-MARKER.false c.args.depth) (ap not c.if-not-at_work.true)
 
 pub returns : goal.returns
 unfolding open_limit
 returns c = first_holds _ (ltb c.args.depth 64) c.at_work.result (c.at_work.ensures
-    c.if-w-eq-MARKER.false c.args.depth) c.if-not-at_work.false
+    c.if-w-eq-MARKER.false c.args.depth) (ap not c.if-not-at_work.false)

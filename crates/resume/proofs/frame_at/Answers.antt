@@ -1,0 +1,8 @@
+use mathlib.Core.Path.{refl}
+use Rattle.format.specs.Numbers.{frame_at}
+use borrow.Author.Rules.{rules}
+use Rattle.resume.proofs.frame_at.Goals as goal
+
+pub returns : goal.returns
+unfolding frame_at
+returns c = refl

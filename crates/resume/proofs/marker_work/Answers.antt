@@ -1,0 +1,8 @@
+use mathlib.Core.Path.{sym}
+use Rattle.format.specs.Numbers.{work_of, body_purpose, use_work}
+use borrow.Author.Rules.{rules}
+use Rattle.resume.proofs.marker_work.Goals as goal
+
+pub returns : goal.returns
+unfolding work_of body_purpose use_work
+returns c = sym (simp (sym c.row_work.ensures))

@@ -1,0 +1,7 @@
+use Rattle.format.specs.Step.{task_of}
+use borrow.Author.Rules.{rules}
+use Rattle.resume.proofs.members_of.Goals as goal
+
+pub returns : goal.returns
+unfolding task_of
+returns c = c.onward.ensures

@@ -1,0 +1,10 @@
+use Rattle.format.specs.Step.{assoc, at_string, for_key}
+use Rattle.format.specs.Numbers.{work_of, use_work}
+use Rattle.resume.proofs.Settled.{waits}
+use borrow.Author.Rules.{rules}
+use Rattle.resume.proofs.next_key.Goals as goal
+
+pub returns : goal.returns
+unfolding work_of use_work
+returns c = λ F R B T O U N. waits _ _ _ _ _ (at_string (for_key (assoc c.args.row c.args.count
+    c.args.done))) (rw (c.string_work.ensures, c.no_trait.ensures))

@@ -1,0 +1,11 @@
+use mathlib.Core.Path.{sym, ◌∙◌}
+use Rattle.rows.specs.Memory.{message_limit}
+use borrow.Author.Rules.{rules}
+use Rattle.scan.proofs.here.Goals as goal
+
+pub returns-then-fits : goal.returns-then-fits
+unfolding message_limit
+returns-then-fits c = sym (simp (sym c.fits.ensures ∙ c.if-fits.true, sym c.fits-then-fits.ensures))
+
+pub returns : goal.returns
+returns c = sym (simp (sym c.fits.ensures ∙ c.if-fits.false))

@@ -1,0 +1,11 @@
+use Rattle.scan.proofs.Words.{reads_word, word_below}
+use borrow.Author.Rules.{rules}
+use Rattle.scan.proofs.word.Goals as goal
+
+pub returns : goal.returns
+returns c = (
+  λ m. reads_word m c.args.message.now (λ i. (c.type_inv.message i).fits)
+      c.args.c c.within.ensures c.read_u29.ensures,
+  word_below c.args.c c.args.message.now _
+      (λ i. (c.type_inv.message i).fits) c.within.ensures c.read_u29.ensures,
+)
