@@ -448,7 +448,7 @@ fn inline_trait(
 
 // A trait that was read before.
 fn known_trait(rows: &mut [usize], traits: &[usize], c: Cursor, row: usize, i: usize) -> Classed
-    ensures { (B T O N bs : List ℕ) → Reads (classed_of result) bs c rows (kept B) (kept T) (kept O) traits (kept N) (known_trait row i) }
+    ensures { (B T O N bs : List ℕ) → Reads (classed_of result) bs c rows (kept B) (kept T) (kept O) (kept traits.now) (kept N) (known_trait row i) }
 {
     let a = decide::old_trait(traits, c, i);
     let Traited::Known(t, c1) = a else {

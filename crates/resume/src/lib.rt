@@ -286,7 +286,7 @@ fn go_members(
     f: Frame,
 ) -> Next
     requires { depth < open_most }
-    ensures { (B T O U : List ℕ) → Steps result frames depth rows (kept B) (kept T) (kept O) (kept U) names
+    ensures { (B T O U : List ℕ) → Steps result frames depth rows (kept B) (kept T) (kept O) (kept U) (kept names.now)
         (λ ts m. s.go ended ts (s.members_of f.row f.left f.done f.first f.dynamic) c m) }
 {
     if f.left == 0 {
@@ -318,7 +318,7 @@ fn go(
     f: Frame,
 ) -> Next
     requires { depth < open_most }
-    ensures { (B T O U : List ℕ) → Steps result frames depth rows (kept B) (kept T) (kept O) (kept U) names (λ ts m. s.go ended ts (s.task_of f) c m) }
+    ensures { (B T O U : List ℕ) → Steps result frames depth rows (kept B) (kept T) (kept O) (kept U) (kept names.now) (λ ts m. s.go ended ts (s.task_of f) c m) }
 {
     if f.task == tasks::PAIRS {
         return next_key(c, depth, f.row, f.left, f.done);
@@ -416,7 +416,7 @@ pub fn pop(
     depth: usize,
 ) -> Next
     requires { depth < suc open_most }
-    ensures { (B T O U : List ℕ) → Steps result frames depth rows (kept B) (kept T) (kept O) (kept U) names (λ ts m. s.pop ts c m) }
+    ensures { (B T O U : List ℕ) → Steps result frames depth rows (kept B) (kept T) (kept O) (kept U) (kept names.now) (λ ts m. s.pop ts c m) }
 {
     let mut n = depth;
     let mut cur = c;
@@ -446,7 +446,7 @@ pub fn onward(
     f: Frame,
 ) -> Next
     requires { depth < open_most }
-    ensures { (B T O U : List ℕ) → Steps result frames depth rows (kept B) (kept T) (kept O) (kept U) names (λ ts m. s.onward ts (s.task_of f) c m) }
+    ensures { (B T O U : List ℕ) → Steps result frames depth rows (kept B) (kept T) (kept O) (kept U) (kept names.now) (λ ts m. s.onward ts (s.task_of f) c m) }
 {
     let a = go(rows, names, frames, c, depth, f);
     let Next::Finished(c1) = a else {
@@ -465,7 +465,7 @@ pub fn close(
     row: usize,
 ) -> Next
     requires { depth < open_most }
-    ensures { (B T O U : List ℕ) → Steps result frames depth rows (kept B) (kept T) (kept O) (kept U) names (λ ts m. s.ends ts (d.on_rows (d.closed row)) c m) }
+    ensures { (B T O U : List ℕ) → Steps result frames depth rows (kept B) (kept T) (kept O) (kept U) (kept names.now) (λ ts m. s.ends ts (d.on_rows (d.closed row)) c m) }
 {
     let a = decide::closed(rows, c, row);
     let Done::Fine(c1) = a else {
@@ -489,7 +489,7 @@ fn keyed(
     p: Span,
 ) -> Next
     requires { depth < open_most }
-    ensures { (B T O U : List ℕ) → Steps result frames depth rows (kept B) (kept T) (kept O) (kept U) names
+    ensures { (B T O U : List ℕ) → Steps result frames depth rows (kept B) (kept T) (kept O) (kept U) (kept names.now)
         (λ ts m. s.keyed ts (s.assoc row count done) p p.size c m) }
 {
     if p.size == 0 {
@@ -523,7 +523,7 @@ fn keyed_dynamic(
     p: Span,
 ) -> Next
     requires { depth < open_most }
-    ensures { (B T O U : List ℕ) → Steps result frames depth rows (kept B) (kept T) (kept O) (kept U) names
+    ensures { (B T O U : List ℕ) → Steps result frames depth rows (kept B) (kept T) (kept O) (kept U) (kept names.now)
         (λ ts m. s.keyed ts (s.dynamics row done) p p.size c m) }
 {
     if p.size == 0 {
@@ -549,7 +549,7 @@ pub fn members_of(
     t: Trait,
 ) -> Next
     requires { depth < open_most }
-    ensures { (B T O U : List ℕ) → Steps result frames depth rows (kept B) (kept T) (kept O) (kept U) names (λ ts m. s.members ts row t c m) }
+    ensures { (B T O U : List ℕ) → Steps result frames depth rows (kept B) (kept T) (kept O) (kept U) (kept names.now) (λ ts m. s.members ts row t c m) }
 {
     onward(
         rows,
@@ -581,7 +581,7 @@ fn naming(
     n: usize,
 ) -> Next
     requires { depth < open_most }
-    ensures { (B T O : List ℕ) → Steps result frames depth rows (kept B) (kept T) (kept O) traits names (λ ts m. s.naming ts row t n c m) }
+    ensures { (B T O : List ℕ) → Steps result frames depth rows (kept B) (kept T) (kept O) traits (kept names.now) (λ ts m. s.naming ts row t n c m) }
 {
     if n != 0 {
         return Next::Wait(string_work(purposes::NAME, row, t, n - 1, 0), c, depth);
@@ -604,7 +604,7 @@ fn string_there(
     p: Span,
 ) -> Next
     requires { depth < open_most }
-    ensures { (B T O U : List ℕ) → Steps result frames depth rows (kept B) (kept T) (kept O) (kept U) names (λ ts m. s.had ts (s.for_string row) p c m) }
+    ensures { (B T O U : List ℕ) → Steps result frames depth rows (kept B) (kept T) (kept O) (kept U) (kept names.now) (λ ts m. s.had ts (s.for_string row) p c m) }
 {
     let a = decide::bodied(rows, c, row, p);
     let Done::Fine(c1) = a else {
@@ -627,7 +627,7 @@ fn class_there(
     p: Span,
 ) -> Next
     requires { depth < open_most }
-    ensures { (B T O : List ℕ) → Steps result frames depth rows (kept B) (kept T) (kept O) traits names (λ ts m. s.had ts (s.for_class row n dynamic) p c m) }
+    ensures { (B T O : List ℕ) → Steps result frames depth rows (kept B) (kept T) (kept O) traits (kept names.now) (λ ts m. s.had ts (s.for_class row n dynamic) p c m) }
 {
     let t = decide::trait_of(c, p, n, dynamic);
     let a = decide::object_class(rows, c, row, t);
@@ -673,7 +673,7 @@ fn vector_there(
     p: Span,
 ) -> Next
     requires { depth < open_most }
-    ensures { (T O U : List ℕ) → Steps result frames depth rows store (kept T) (kept O) (kept U) names (λ ts m. s.had ts (s.for_vector row n) p c m) }
+    ensures { (T O U : List ℕ) → Steps result frames depth rows (kept store.now) (kept T) (kept O) (kept U) (kept names.now) (λ ts m. s.had ts (s.for_vector row n) p c m) }
 {
     let a = decide::starred(store, c, p);
     let Whether::Is(star, c1) = a else {
@@ -706,7 +706,7 @@ pub fn had(
     p: Span,
 ) -> Next
     requires { depth < open_most }
-    ensures { (T O : List ℕ) → Steps result frames depth rows store (kept T) (kept O) traits names (λ ts m. with_use (s.broken m) w (λ u. s.had ts u p c m)) }
+    ensures { (T O : List ℕ) → Steps result frames depth rows (kept store.now) (kept T) (kept O) traits names (λ ts m. with_use (s.broken m) w (λ u. s.had ts u p c m)) }
 {
     let purpose = w.purpose;
     match purpose {
@@ -750,8 +750,8 @@ pub fn text_done(
     valid: bool,
 ) -> Next
     requires { (depth < open_most) × IsText w }
-    ensures* { λ x. ⌜ ((O : List ℕ) → Steps x frames depth rows store strings (kept O) traits names
-        (λ ts m. with_text (s.broken m) w (λ x. s.text_done ts x w.span valid c m))) ⌝ }
+    ensures { (O : List ℕ) → Steps result frames depth rows (kept store.now) strings (kept O) traits names
+        (λ ts m. with_text (s.broken m) w (λ x. s.text_done ts x w.span valid c m)) }
 {
     if w.purpose == purposes::XML {
         let a = decide::judged(c, valid);

@@ -10,7 +10,7 @@ ghost use Rattle.wire.specs.declared.Size.TheVariants.{New};
 ghost use Rattle.decide.specs.Outcomes.{done_of, text_of, whether_of};
 ghost use Rattle.format.specs.Reading as r;
 ghost use Rattle.scan.specs.declared.Number.TheVariants as number;
-ghost use Rattle.scan.specs.Reads.{result, reads, number_in, moved_to, short_at, within_of};
+ghost use Rattle.scan.specs.Reads.{result as result_of, reads, number_in, moved_to, short_at, within_of};
 
 use decide::{Done, Refusal, Text, Whether};
 use format::refusals;
@@ -28,7 +28,7 @@ pub enum Number {
 // ---- the refusal in an answer that is one
 
 pub fn no_number(a: Number) -> Refusal
-    ensures* { λ x. ⌜ ((y : Refusal) → a ≡ number.No y → x ≡ y) ⌝ }
+    ensures { (y : Refusal) → a ≡ number.No y → result ≡ y }
 {
     match a {
         Number::Whole(n, c) => decide::lost(),
@@ -40,7 +40,7 @@ pub fn no_number(a: Number) -> Refusal
 
 // No byte is left: 2 at the message's end, 11 at the limit.
 fn short(len: usize, at: usize) -> Refusal
-    ensures* { λ x. ⌜ x ≡ short_at len at ⌝ }
+    ensures { result ≡ short_at len at }
 {
     let mut place = at;
     if at < len {
@@ -67,7 +67,7 @@ fn short(len: usize, at: usize) -> Refusal
 
 // So many bytes more are there, and within the limit.
 fn here(len: usize, at: usize, n: usize) -> bool
-    ensures* { λ x. ⌜ x ≡ (leb (at + n) len && leb (at + n) message_limit) ⌝ }
+    ensures { result ≡ (leb (at + n) len && leb (at + n) message_limit) }
 {
     if wire::fits(len, at, n) {
         return wire::fits(MESSAGE_LIMIT, at, n);
@@ -77,7 +77,7 @@ fn here(len: usize, at: usize, n: usize) -> bool
 
 // The cursor at a later place.
 fn moved(c: Cursor, at: usize) -> Cursor
-    ensures* { λ x. ⌜ x ≡ moved_to c at ⌝ }
+    ensures { result ≡ moved_to c at }
 {
     let mut after = c;
     after.at = at;
@@ -85,7 +85,7 @@ fn moved(c: Cursor, at: usize) -> Cursor
 }
 
 pub fn byte(message: &[u8], c: Cursor) -> Number
-    ensures* { λ x. ⌜ ((m : Memory) → result (number_in x) m message.now ≡ reads r.byte m c message.now) ⌝ }
+    ensures { (m : Memory) → result_of (number_in result) m message.now ≡ reads r.byte m c message.now }
 {
     let at = c.at;
     if here(message.len(), at, 1) {
@@ -96,7 +96,7 @@ pub fn byte(message: &[u8], c: Cursor) -> Number
 
 // The number that was read from the message at `at`, if it lies within the limit.
 fn within(message: &[u8], c: Cursor, read: Read) -> Number
-    ensures* { λ x. ⌜ x ≡ within_of (length message.now) c read ⌝ }
+    ensures { result ≡ within_of (length message.now) c read }
 {
     let Read::Value(n, next) = read else {
         return Number::No(short(message.len(), c.at));
@@ -109,15 +109,15 @@ fn within(message: &[u8], c: Cursor, read: Read) -> Number
 
 // A U29.
 pub fn word(message: &[u8], c: Cursor) -> Number
-    ensures* { λ x. ⌜ ((m : Memory) → result (number_in x) m message.now ≡ reads (r.u29 3 0) m c message.now)
-        × ((n : ℕ) (c' : Cursor) → x ≡ number.Whole n c' → n < 2 ^ 29) ⌝ }
+    ensures { ((m : Memory) → result_of (number_in result) m message.now ≡ reads (r.u29 3 0) m c message.now)
+        × ((n : ℕ) (c' : Cursor) → result ≡ number.Whole n c' → n < 2 ^ 29) }
 {
     within(message, c, wire::read_u29(message, c.at))
 }
 
 // Eight bytes.
 pub fn eight(message: &[u8], c: Cursor) -> Number
-    ensures* { λ x. ⌜ ((m : Memory) → result (number_in x) m message.now ≡ reads (r.number 7 0) m c message.now) ⌝ }
+    ensures { (m : Memory) → result_of (number_in result) m message.now ≡ reads (r.number 7 0) m c message.now }
 {
     within(message, c, wire::read_be64(message, c.at))
 }
@@ -127,8 +127,8 @@ pub fn eight(message: &[u8], c: Cursor) -> Number
 // The bytes of a span, copied as a whole.
 pub fn copied(message: &[u8], store: &mut [u8], c: Cursor, s: Span) -> Done
     requires { 0 < s.size → (s.begin + s.size ≤ c.store) × (c.store ≤ length store.old) }
-    ensures* { λ x. ⌜ ((R T O U N : List ℕ)
-        → Reads (done_of x) message.now c (kept R) store (kept T) (kept O) (kept U) (kept N) (r.filled (λ left. r.ret tt) s s.size)) ⌝ }
+    ensures { (R T O U N : List ℕ)
+        → Reads (done_of result) message.now c (kept R) store (kept T) (kept O) (kept U) (kept N) (r.filled (λ left. r.ret tt) s s.size) }
 {
     let at = c.at;
     let n = s.size;
@@ -145,7 +145,7 @@ pub fn copied(message: &[u8], store: &mut [u8], c: Cursor, s: Span) -> Done
 // The bytes of a span, copied as a whole, and whether they are a text.
 pub fn checked(message: &[u8], store: &mut [u8], c: Cursor, s: Span) -> Whether
     requires { 0 < s.size → (s.begin + s.size ≤ c.store) × (c.store ≤ length store.old) }
-    ensures* { λ x. ⌜ ((R T O U N : List ℕ) → Reads (whether_of x) message.now c (kept R) store (kept T) (kept O) (kept U) (kept N) (r.chars_of s s.size)) ⌝ }
+    ensures { (R T O U N : List ℕ) → Reads (whether_of result) message.now c (kept R) store (kept T) (kept O) (kept U) (kept N) (r.chars_of s s.size) }
 {
     let at = c.at;
     let n = s.size;
@@ -161,7 +161,7 @@ pub fn checked(message: &[u8], store: &mut [u8], c: Cursor, s: Span) -> Whether
 
 // A new text of `size` bytes, which enters the strings; an empty one doesn't.
 fn new_text(message: &[u8], store: &mut [u8], strings: &mut [usize], c: Cursor, size: usize) -> Text
-    ensures* { λ x. ⌜ ((R O U N : List ℕ) → Reads (text_of x) message.now c (kept R) store strings (kept O) (kept U) (kept N) (r.text_of r.plain (New size))) ⌝ }
+    ensures { (R O U N : List ℕ) → Reads (text_of result) message.now c (kept R) store strings (kept O) (kept U) (kept N) (r.text_of r.plain (New size)) }
 {
     if size == 0 {
         return Text::Have(Span { begin: 0, size: 0 }, c);
@@ -179,7 +179,7 @@ fn new_text(message: &[u8], store: &mut [u8], strings: &mut [usize], c: Cursor, 
 
 // A key, a class or a name.
 pub fn text(message: &[u8], store: &mut [u8], strings: &mut [usize], c: Cursor) -> Text
-    ensures* { λ x. ⌜ ((R O U N : List ℕ) → Reads (text_of x) message.now c (kept R) store strings (kept O) (kept U) (kept N) (r.text r.plain)) ⌝ }
+    ensures { (R O U N : List ℕ) → Reads (text_of result) message.now c (kept R) store strings (kept O) (kept U) (kept N) (r.text r.plain) }
 {
     let a = word(message, c);
     let Number::Whole(w, c1) = a else {

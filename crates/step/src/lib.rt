@@ -33,8 +33,8 @@ fn number_done(
     bits: usize,
 ) -> Next
     requires { (depth < open_most) × IsNumber w }
-    ensures* { λ x. ⌜ ((B T O U : List ℕ) → Steps x frames depth rows (kept B) (kept T) (kept O) (kept U) names
-        (λ ts m. with_number (s.broken m) w (λ x. s.number_done ts x bits c m))) ⌝ }
+    ensures { (B T O U : List ℕ) → Steps result frames depth rows (kept B) (kept T) (kept O) (kept U) (kept names.now)
+        (λ ts m. with_number (s.broken m) w (λ x. s.number_done ts x bits c m)) }
 {
     if w.purpose == purposes::DOUBLE {
         let a = decide::numbered(rows, c, w.row, bits);
@@ -61,8 +61,8 @@ fn flag_done(
     b: usize,
 ) -> Next
     requires { (depth < open_most) × IsFlag w }
-    ensures* { λ x. ⌜ ((B T O U : List ℕ) → Steps x frames depth rows (kept B) (kept T) (kept O) (kept U) names
-        (λ ts m. with_flag (s.broken m) w (λ x. s.flag_done ts x b c m))) ⌝ }
+    ensures { (B T O U : List ℕ) → Steps result frames depth rows (kept B) (kept T) (kept O) (kept U) (kept names.now)
+        (λ ts m. with_flag (s.broken m) w (λ x. s.flag_done ts x b c m)) }
 {
     let mut flag = decide::fixed(b);
     if w.purpose == purposes::DICTIONARY {
@@ -134,7 +134,7 @@ fn raw_byte(
     b: u8,
 ) -> Next
     requires { (depth < open_most) × IsRaw w.purpose }
-    ensures { (T O U : List ℕ) → Steps result frames depth rows store (kept T) (kept O) (kept U) names
+    ensures { (T O U : List ℕ) → Steps result frames depth rows store (kept T) (kept O) (kept U) (kept names.now)
         (λ ts m. with_raw (s.broken m) w.purpose w.row (λ r. s.act (s.at_raw r w.span w.left) b ts c m)) }
 {
     let a = decide::stored(store, c, w.span, w.left, b);
@@ -175,8 +175,8 @@ fn text_byte(
     b: u8,
 ) -> Next
     requires { (depth < open_most) × IsText w }
-    ensures* { λ x. ⌜ ((O : List ℕ) → Steps x frames depth rows store strings (kept O) traits names
-        (λ ts m. with_text (s.broken m) w (λ x. s.act (s.at_text x w.span w.left w.part) b ts c m))) ⌝ }
+    ensures { (O : List ℕ) → Steps result frames depth rows store strings (kept O) traits names
+        (λ ts m. with_text (s.broken m) w (λ x. s.act (s.at_text x w.span w.left w.part) b ts c m)) }
 {
     let a = decide::stored(store, c, w.span, w.left, b);
     let Done::Fine(c1) = a else {
@@ -226,8 +226,8 @@ fn word_byte(
     b: u8,
 ) -> Next
     requires { (depth < open_most) × IsWord w }
-    ensures* { λ x. ⌜ Steps x frames depth rows store strings objects traits names
-        (λ ts m. with_word (s.broken m) w (λ x. s.act (s.at_word x w.left w.part) b ts c m)) ⌝ }
+    ensures { Steps result frames depth rows (kept store.now) (kept strings.now) objects traits names
+        (λ ts m. with_word (s.broken m) w (λ x. s.act (s.at_word x w.left w.part) b ts c m)) }
 {
     let p = wire::u29_byte(w.left, w.part, b);
     match p {
@@ -250,8 +250,8 @@ fn number_byte(
     b: u8,
 ) -> Next
     requires { (depth < open_most) × IsNumber w }
-    ensures* { λ x. ⌜ ((B T O U : List ℕ) → Steps x frames depth rows (kept B) (kept T) (kept O) (kept U) names
-        (λ ts m. with_number (s.broken m) w (λ x. s.act (s.at_number x w.left w.part) b ts c m))) ⌝ }
+    ensures { (B T O U : List ℕ) → Steps result frames depth rows (kept B) (kept T) (kept O) (kept U) (kept names.now)
+        (λ ts m. with_number (s.broken m) w (λ x. s.act (s.at_number x w.left w.part) b ts c m)) }
 {
     let p = wire::be64_byte(w.left, w.part, b);
     match p {
@@ -300,7 +300,7 @@ fn begun(
     b: usize,
 ) -> Next
     requires { depth < open_most }
-    ensures { (B T O U : List ℕ) → Steps result frames depth rows (kept B) (kept T) (kept O) (kept U) names (λ ts m. s.begun ts row (d.kind_of b) c m) }
+    ensures { (B T O U : List ℕ) → Steps result frames depth rows (kept B) (kept T) (kept O) (kept U) (kept names.now) (λ ts m. s.begun ts row (d.kind_of b) c m) }
 {
     let kind = decide::kind_of(b);
     match kind {
@@ -372,7 +372,7 @@ fn marker_byte(
     b: usize,
 ) -> Next
     requires { depth < suc open_most }
-    ensures { (B T O U : List ℕ) → Steps result frames depth rows (kept B) (kept T) (kept O) (kept U) names (λ ts m. s.act (s.at_marker (work_key w)) b ts c m) }
+    ensures { (B T O U : List ℕ) → Steps result frames depth rows (kept B) (kept T) (kept O) (kept U) (kept names.now) (λ ts m. s.act (s.at_marker (work_key w)) b ts c m) }
 {
     let a = decide::marker(rows, c, shown(w), OPEN_LIMIT - depth, b);
     let Begun::Row(row, c1) = a else {

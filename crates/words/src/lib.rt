@@ -133,7 +133,7 @@ fn reserved_for(rows: &mut [usize], c: Cursor, w: Work, p: Span) -> Done
 fn string_new(rows: &mut [usize], store: &[u8], c: Cursor, depth: usize, w: Work, n: usize) -> Next
     requires { (IsUse w) × (0 < n) }
     ensures { (F T O U N : List ℕ)
-        → Steps result (kept F) depth rows store (kept T) (kept O) (kept U) (kept N) (λ ts m. with_use (s.broken m) w (λ u. s.string_sized ts u (New n) c m)) }
+        → Steps result (kept F) depth rows (kept store.now) (kept T) (kept O) (kept U) (kept N) (λ ts m. with_use (s.broken m) w (λ u. s.string_sized ts u (New n) c m)) }
 {
     let a = decide::reserved(store.len(), c, n);
     let Text::Have(p, c1) = a else {
@@ -160,7 +160,7 @@ fn string_sized(
     n: usize,
 ) -> Next
     requires { (depth < open_most) × IsUse w }
-    ensures { (O : List ℕ) → Steps result frames depth rows store strings (kept O) traits names
+    ensures { (O : List ℕ) → Steps result frames depth rows (kept store.now) (kept strings.now) (kept O) traits names
         (λ ts m. with_use (s.broken m) w (λ u. s.string_sized ts u (size_of n) c m)) }
 {
     let size = wire::size_of(n);
@@ -222,7 +222,7 @@ fn texting(
     n: usize,
 ) -> Next
     requires { depth < open_most }
-    ensures { (B T O U : List ℕ) → Steps result frames depth rows (kept B) (kept T) (kept O) (kept U) names (λ ts m. s.texting ts row p n c m) }
+    ensures { (B T O U : List ℕ) → Steps result frames depth rows (kept B) (kept T) (kept O) (kept U) (kept names.now) (λ ts m. s.texting ts row p n c m) }
 {
     if n == 0 {
         return resume::close(rows, names, frames, c, depth, row);
@@ -247,7 +247,7 @@ pub fn filling(
     n: usize,
 ) -> Next
     requires { (depth < open_most) × IsRaw purpose }
-    ensures { (B T O U : List ℕ) → Steps result frames depth rows (kept B) (kept T) (kept O) (kept U) names
+    ensures { (B T O U : List ℕ) → Steps result frames depth rows (kept B) (kept T) (kept O) (kept U) (kept names.now)
         (λ ts m. with_raw (s.broken m) purpose row (λ r. s.filling ts r p n c m)) }
 {
     if n == 0 {
@@ -271,7 +271,7 @@ fn open_xml(
     n: usize,
 ) -> Next
     requires { depth < open_most }
-    ensures { (T O U : List ℕ) → Steps result frames depth rows store (kept T) (kept O) (kept U) names (λ ts m. s.opened ts row d.xml n c m) }
+    ensures { (T O U : List ℕ) → Steps result frames depth rows (kept store.now) (kept T) (kept O) (kept U) (kept names.now) (λ ts m. s.opened ts row d.xml n c m) }
 {
     let a = roomy(rows, c, store.len(), row, n);
     let Text::Have(p, c1) = a else {
@@ -291,7 +291,7 @@ fn open_bytes(
     n: usize,
 ) -> Next
     requires { depth < open_most }
-    ensures { (T O U : List ℕ) → Steps result frames depth rows store (kept T) (kept O) (kept U) names (λ ts m. s.opened ts row d.bytes n c m) }
+    ensures { (T O U : List ℕ) → Steps result frames depth rows (kept store.now) (kept T) (kept O) (kept U) (kept names.now) (λ ts m. s.opened ts row d.bytes n c m) }
 {
     let a = roomy(rows, c, store.len(), row, n);
     let Text::Have(p, c1) = a else {
@@ -348,7 +348,7 @@ fn open_raw(
 ) -> Next
     requires { n < 2 ^ 30 }
     ensures { (F T O U N : List ℕ)
-        → Steps result (kept F) depth rows store (kept T) (kept O) (kept U) (kept N) (λ ts m. s.opened ts row (d.raw (width_in width)) n c m) }
+        → Steps result (kept F) depth rows (kept store.now) (kept T) (kept O) (kept U) (kept N) (λ ts m. s.opened ts row (d.raw (width_in width)) n c m) }
 {
     let a = roomy(rows, c, store.len(), row, n * decide::width_of(width));
     let Text::Have(p, c1) = a else {
@@ -374,7 +374,7 @@ fn open_body(
     n: usize,
 ) -> Next
     requires { (depth < open_most) × (n < 2 ^ 30) }
-    ensures { (T O U : List ℕ) → Steps result frames depth rows store (kept T) (kept O) (kept U) names (λ ts m. s.opened ts row (body_in body) n c m) }
+    ensures { (T O U : List ℕ) → Steps result frames depth rows (kept store.now) (kept T) (kept O) (kept U) (kept names.now) (λ ts m. s.opened ts row (body_in body) n c m) }
 {
     match body {
         Body::Xml => open_xml(rows, store, names, frames, c, depth, row, n),
@@ -411,7 +411,7 @@ fn refer(
     i: usize,
 ) -> Next
     requires { depth < open_most }
-    ensures { (B T U : List ℕ) → Steps result frames depth rows (kept B) (kept T) objects (kept U) names
+    ensures { (B T U : List ℕ) → Steps result frames depth rows (kept B) (kept T) (kept objects.now) (kept U) (kept names.now)
         (λ ts m. s.ends ts (λ m. d.on_rows (d.referred row i m.objects) m) c m) }
 {
     let a = decide::referred(rows, objects, c, row, i);
@@ -435,7 +435,7 @@ fn body_sized(
     w: usize,
 ) -> Next
     requires { (depth < open_most) × (w < 2 ^ 30) }
-    ensures { (T U : List ℕ) → Steps result frames depth rows store (kept T) objects (kept U) names (λ ts m. s.body_sized ts row (body_in body) (size_of w) c m) }
+    ensures { (T U : List ℕ) → Steps result frames depth rows (kept store.now) (kept T) objects (kept U) (kept names.now) (λ ts m. s.body_sized ts row (body_in body) (size_of w) c m) }
 {
     let size = wire::size_of(w);
     match size {
@@ -462,7 +462,7 @@ fn object_known(
     i: usize,
 ) -> Next
     requires { depth < open_most }
-    ensures { (B T O : List ℕ) → Steps result frames depth rows (kept B) (kept T) (kept O) traits names
+    ensures { (B T O : List ℕ) → Steps result frames depth rows (kept B) (kept T) (kept O) (kept traits.now) (kept names.now)
         (λ ts m. s.on (d.looking (λ m. d.old_trait i m.traits) m c) m (λ t c m. s.on (d.on_rows (d.object_class row t) m c) m (λ y. s.members ts row t))) }
 {
     let a = decide::old_trait(traits, c, i);
@@ -489,7 +489,7 @@ fn object_shaped(
     w: usize,
 ) -> Next
     requires { depth < open_most }
-    ensures { (B T : List ℕ) → Steps result frames depth rows (kept B) (kept T) objects traits names (λ ts m. s.object_shaped ts row (shape_of w) c m) }
+    ensures { (B T : List ℕ) → Steps result frames depth rows (kept B) (kept T) objects (kept traits.now) (kept names.now) (λ ts m. s.object_shaped ts row (shape_of w) c m) }
 {
     let shape = wire::shape_of(w);
     if let Shape::Object(i) = shape {
@@ -525,7 +525,7 @@ fn integer_done(
     w: usize,
 ) -> Next
     requires { depth < open_most }
-    ensures { (B T O U : List ℕ) → Steps result frames depth rows (kept B) (kept T) (kept O) (kept U) names
+    ensures { (B T O U : List ℕ) → Steps result frames depth rows (kept B) (kept T) (kept O) (kept U) (kept names.now)
         (λ ts m. s.ends ts (d.on_rows (d.integer_end row w)) c m) }
 {
     let a = decide::integer_end(rows, c, row, w);
@@ -566,7 +566,7 @@ pub fn worded(
     n: usize,
 ) -> Next
     requires { (depth < open_most) × (IsWord w) × (n < 2 ^ 30) }
-    ensures* { λ x. ⌜ Steps x frames depth rows store strings objects traits names (λ ts m. with_word (s.broken m) w (λ x. s.worded ts x n c m)) ⌝ }
+    ensures { Steps result frames depth rows (kept store.now) (kept strings.now) objects traits names (λ ts m. with_word (s.broken m) w (λ x. s.worded ts x n c m)) }
 {
     if w.purpose == purposes::INTEGER {
         return integer_done(rows, names, frames, c, depth, w.row, n);
