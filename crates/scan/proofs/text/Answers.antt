@@ -14,9 +14,9 @@ returns-in_default c = λ R O U N. refused _ _ _ _ _ _ _ _ _ (ap number_in c.in_
 pub returns-in-Old : goal.returns-in-Old
 unfolding r.text r.text_of
 returns-in-Old c = λ R O U N. then _ _ _ _ _ _ _ _ _ _ (ap number_in c.in-Whole.is) (c.word-a.ensures.0 _) (chosen (r.text_of r.plain) _ _ _ _ (sym
-    c.in-Old.is ∙ c.type_size.ensures) (does_old-text _ _ _ _ _ _ _ _ _ _ c.old_text.ensures))
+    c.in-Old.is ∙ c.size_of-size.ensures) (does_old-text _ _ _ _ _ _ _ _ _ _ c.old_text.ensures))
 
 pub returns-in-New : goal.returns-in-New
 unfolding r.text
 returns-in-New c = λ R O U N. then _ _ _ _ _ _ _ _ _ _ (ap number_in c.in-Whole.is) (c.word-a.ensures.0 _) (chosen (r.text_of r.plain) _ _ _ _ (sym
-    c.in-New.is ∙ c.type_size.ensures) (c.new_text.ensures R O U N))
+    c.in-New.is ∙ c.size_of-size.ensures) (c.new_text.ensures R O U N))
