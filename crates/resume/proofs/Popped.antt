@@ -4,7 +4,6 @@ use mathlib.Core.List.{List, [], ◌∷◌}
 use Prim.Native.Nat.{ℕ, zero, suc, ◌-◌, ◌<◌, ◌≤◌}
 use native.Mathlib.Omega.{arith}
 use lib.ListN.{length}
-use types.Run.{OneOf}
 use denote.Enum.Declared.{tag_of}
 use Rattle.rows.specs.declared.Cursor.{Cursor}
 use Rattle.rows.specs.Memory.{Memory, memory}
@@ -72,7 +71,7 @@ module _ (R₀ N F₀ : List ℕ) (depth : ℕ) (c₀ : Cursor) (R F : List ℕ)
       over₀ : (B T O U : List ℕ) → settled (after a F' (memory R₂ B T O U N)) ≡ after_of F₀ (go ended (outer F₀ n) (task_of g) c₁ (memory R₁ B T O U N))
       over₀ B T O U = G B T O U ∙ ap (λ F. after_of F (go ended (outer F n) (task_of g) c₁ (memory R₁ B T O U N))) i.frames
 
-      pub task-waits : (B T O U : List ℕ) → OneOf (0 ∷ 2 ∷ []) (tag_of next.the_type a)
+      pub task-waits : (B T O U : List ℕ) → ((x : Cursor) → a ≡ Finished x → ⊥)
           → settled (after a F' (memory R₂ B T O U N)) ≡ after_of F₀ (pop (frames_of F₀ depth) c₀ (memory R₀ B T O U N))
       task-waits B T O U k =
           goes_on F₀ F' (memory R₁ B T O U N) (memory R₂ B T O U N) (outer F₀ n) (task_of g) c₁ a (pop (outer F₀ n)) k (over₀ B T O U)

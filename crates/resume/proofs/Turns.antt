@@ -3,7 +3,6 @@ use mathlib.Core.Path.{◌≡◌, refl, sym, ap, ◌∙◌}
 use mathlib.Core.List.{List, [], ◌∷◌}
 use Prim.Native.Nat.{ℕ, zero, suc, ◌+◌}
 use native.Mathlib.Omega.{arith}
-use types.Run.{OneOf, miss}
 use denote.Enum.Declared.{tag_of}
 use Rattle.rows.specs.declared.Cursor.{Cursor}
 use Rattle.rows.specs.Memory.{Memory}
@@ -50,14 +49,14 @@ go-then k ts (values_of row n done) c m = refl
 go-then k ts strange c m = refl
 
 -- an answer that is not finished
-unless : (a : Next) (F F' : List ℕ) (m : Memory) (s : State) (k : Cursor → Memory → State) → OneOf (0 ∷ 2 ∷ []) (tag_of next.the_type a)
+unless : (a : Next) (F F' : List ℕ) (m : Memory) (s : State) (k : Cursor → Memory → State) → ((x : Cursor) → a ≡ Finished x → ⊥)
     → settled (after a F' m) ≡ after_of F s → settled (after a F' m) ≡ after_of F (then s k)
 unfolding settled after_of then
 unless a F F' m (wait x ts c m') k h e = e
 unless a F F' m (over (refused n told place m')) k h e = e
 unless a F F' m (none m') k h e = e
 unless (Wait w c' d) F F' m (over (finished c m')) k h e = absurd (let z : ◌≡◌ {A = ℕ} 0 1 = cc in omega arith)
-unless (Finished c') F F' m (over (finished c m')) k h e = absurd (miss (0 ∷ 2 ∷ []) 1 tt h)
+unless (Finished c') F F' m (over (finished c m')) k h e = absurd (h c' refl)
 unless (Refused r) F F' m (over (finished c m')) k h e = absurd (let z : ◌≡◌ {A = ℕ} 0 1 = cc in omega arith)
 
 -- and one that is
@@ -70,7 +69,7 @@ over-finished c' F F' m' (none m) e = absurd (let z : ◌≡◌ {A = ℕ} 0 1 = 
 
 module _ (F F' : List ℕ) (m m' : Memory) (ts : List Frame) (t : Task) (c : Cursor) where
   -- a task that waits, or is refused: nothing comes after it
-  pub goes_on : (a : Next) (k : Cursor → Memory → State) → OneOf (0 ∷ 2 ∷ []) (tag_of next.the_type a)
+  pub goes_on : (a : Next) (k : Cursor → Memory → State) → ((x : Cursor) → a ≡ Finished x → ⊥)
       → settled (after a F' m') ≡ after_of F (go ended ts t c m) → settled (after a F' m') ≡ after_of F (go k ts t c m)
   goes_on a k h e = unless a F F' m' (go ended ts t c m) k h e ∙ ap (after_of F) (sym (go-then k ts t c m))
 

@@ -9,7 +9,7 @@ use Rattle.resume.proofs.class_there.Goals as goal
 
 pub returns-in_default : goal.returns-in_default
 returns-in_default c = λ B T O. class-made _ _ _ _ _ _ _ _ _ _ c.trait_of-t.ensures (refuses _ _ _ _ _ (c.not_done.ensures _ c.in_default.is)
-    (c.object_class-a.auto.0, refl, refl, refl, refl, refl) ∙ ap (after_of _) (sym (stop-object _ _ _ _ _ _ _ _ _ _ _ c.object_class-a.ensures _
+    (c.object_class-a.auto.rows, refl, refl, refl, refl, refl) ∙ ap (after_of _) (sym (stop-object _ _ _ _ _ _ _ _ _ _ _ c.object_class-a.ensures _
     _ (ap done_of c.in_default.is))))
 
 pub returns : goal.returns

@@ -8,7 +8,7 @@ use borrow.Author.Rules.{rules}
 use Rattle.resume.proofs.count_entry.Goals as goal
 
 pub returns-in_default : goal.returns-in_default
-returns-in_default c = λ B T O U N k. refused_as _ _ _ _ _ _ _ _ _ _ c.counted-a.auto.0 (c.not_done.ensures _ c.in_default.is) (stop-counted _ _ _
+returns-in_default c = λ B T O U N k. refused_as _ _ _ _ _ _ _ _ _ _ c.counted-a.auto.rows (c.not_done.ensures _ c.in_default.is) (stop-counted _ _ _
     _ _ _ _ _ _ _ _ _ c.counted-a.ensures _ _ (ap done_of c.in_default.is))
 
 pub overflow_add-g : goal.overflow_add-g

@@ -6,7 +6,7 @@ use borrow.Author.Rules.{rules}
 use Rattle.resume.proofs.finish.Goals as goal
 
 pub returns-in_default : goal.returns-in_default
-returns-in_default c = λ F B T O U N. refuses-rows _ _ _ _ _ _ _ _ _ _ _ c.closed-a.auto.0 (c.not_done.ensures _ c.in_default.is) (stop-closed _ _
+returns-in_default c = λ F B T O U N. refuses-rows _ _ _ _ _ _ _ _ _ _ _ c.closed-a.auto.rows (c.not_done.ensures _ c.in_default.is) (stop-closed _ _
     _ _ _ _ _ _ _ _ c.closed-a.ensures _ _ (ap done_of c.in_default.is))
 
 pub returns : goal.returns

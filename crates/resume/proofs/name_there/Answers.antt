@@ -9,7 +9,7 @@ use Rattle.resume.proofs.name_there.Goals as goal
 
 pub returns-in_default : goal.returns-in_default
 unfolding had
-returns-in_default c = λ B T O. refuses _ _ _ _ _ (c.no_text.ensures _ c.in_default.is) (refl, refl, refl, refl, refl) ∙ ap
+returns-in_default c = λ B T O. refuses _ _ _ _ _ (c.no_text.ensures _ c.in_default.is) (refl, refl, refl, refl, refl, c.named-a.auto.names) ∙ ap
     (after_of _) (sym (stop-named _ _ _ _ _ _ _ _ _ _ c.named-a.ensures _ _ (ap text_of c.in_default.is)))
 
 pub returns : goal.returns

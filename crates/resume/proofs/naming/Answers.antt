@@ -12,7 +12,7 @@ unfolding work_of use_work
 returns-then-n-ne0 c = λ B T O. same _ _ _ _ (waits _ _ _ _ _ _ c.string_work.ensures) (more-names _ _ _ _ _ _ c.if-n-ne0.true)
 
 pub returns-in_default : goal.returns-in_default
-returns-in_default c = λ B T O. refuses _ _ _ _ _ _ (zeroed-same _ _ _ _ _ _ _ _ _ _ _ _ refl refl refl refl c.trait_end-a.auto.0 refl) (c.not_done.ensures _
+returns-in_default c = λ B T O. refuses _ _ _ _ _ _ (zeroed-same _ _ _ _ _ _ _ _ _ _ _ _ refl refl refl refl c.trait_end-a.auto.traits refl) (c.not_done.ensures _
     c.in_default.is) ((no_names _ _ _ _ _ _ c.if-n-ne0.false) ∙ stop_trait_end _ _ _ _ _ _ _ _ _ _ c.trait_end-a.ensures _ _ (ap
     done_of c.in_default.is))
 

@@ -26,7 +26,7 @@ go-a-requires c = omega (
 
 pub returns-in_default-a : goal.returns-in_default-a
 returns-in_default-a c = λ B T O U. task-waits _ _ _ _ _ _ _ _ _ c.loop-n.invariant c.loop-n-test.true _ c.frame_at-f.ensures _ _ c.entry_done-e.ensures _ _
-    c.in-On.is _ _ _ c.go-a.ensures _ _ _ _ c.in_default-a.in_default-a-own.keys2
+    c.in-On.is _ _ _ c.go-a.ensures _ _ _ _ c.in_default-a.not-Finished
 
 pub loop-n-smaller : goal.loop-n-smaller
 loop-n-smaller c = omega (
@@ -36,7 +36,7 @@ loop-n-smaller c = omega (
 
 pub loop-n-preserved : goal.loop-n-preserved
 loop-n-preserved c = task-finished _ _ _ _ _ _ _ _ _ c.loop-n.invariant c.loop-n-test.true _ c.frame_at-f.ensures _ _ c.entry_done-e.ensures _ _
-    c.in-On.is _ _ _ c.go-a.ensures _ c.in-Finished.is (c.go-a.auto.0 ∙ c.entry_done-e.auto.0 ∙ c.loop-n.invariant.rows)
+    c.in-On.is _ _ _ c.go-a.ensures _ c.in-Finished.is (c.go-a.auto.rows ∙ c.entry_done-e.auto.rows ∙ c.loop-n.invariant.rows)
 
 pub returns : goal.returns
 returns c = λ B T O U. popped _ _ _ _ _ _ _ _ _ c.loop-n.invariant _ _ _ _ c.loop-n-test.false

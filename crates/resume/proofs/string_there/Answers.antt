@@ -9,7 +9,7 @@ use Rattle.resume.proofs.string_there.Goals as goal
 
 pub returns-in_default : goal.returns-in_default
 unfolding had
-returns-in_default c = λ B T O U. refuses _ _ _ _ _ (c.not_done.ensures _ c.in_default.is) (c.bodied-a.auto.0, refl, refl, refl, refl, refl) ∙ ap
+returns-in_default c = λ B T O U. refuses _ _ _ _ _ (c.not_done.ensures _ c.in_default.is) (c.bodied-a.auto.rows, refl, refl, refl, refl, refl) ∙ ap
     (after_of _) (sym (stop-bodied _ _ _ _ _ _ _ _ _ _ _ c.bodied-a.ensures _ _ (ap done_of c.in_default.is)))
 
 pub returns : goal.returns

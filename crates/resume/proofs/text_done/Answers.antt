@@ -22,7 +22,7 @@ returns-then-w-eq-XML c = λ O. rw c.if-w-eq-XML.true (c.close.ensures _ _ O _ �
 
 pub returns-in_default-b : goal.returns-in_default-b
 returns-in_default-b c = λ O. rw (ne_eqb _ _ c.if-w-eq-XML.false) (use_text c.args.w (c.requires.1 c.if-w-eq-XML.false) _ _ _ _ _ _ _ (refuses _ _ _ _ _ (c.no_text.ensures
-    _ c.in_default-b.is) (refl, refl, refl, refl, refl) ∙ ap (after_of _) (sym (stop-text-end _ _ _ _ _ _ _ _
+    _ c.in_default-b.is) (refl, refl, c.text_end-b.auto.strings, refl, refl, refl) ∙ ap (after_of _) (sym (stop-text-end _ _ _ _ _ _ _ _
     _ _ _ c.text_end-b.ensures _ _ (ap text_of c.in_default-b.is)))))
 
 pub returns : goal.returns

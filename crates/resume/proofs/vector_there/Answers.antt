@@ -14,7 +14,7 @@ returns-in_default c = λ T O U. refuses _ _ _ _ _ (c.no_flag.ensures _ c.in_def
 
 pub returns-in_default-b : goal.returns-in_default-b
 unfolding had
-returns-in_default-b c = λ T O U. refuses _ _ _ _ _ (c.not_done.ensures _ c.in_default-b.is) (c.vector_class-b.auto.0, refl, refl, refl, refl, refl) ∙
+returns-in_default-b c = λ T O U. refuses _ _ _ _ _ (c.not_done.ensures _ c.in_default-b.is) (c.vector_class-b.auto.rows, refl, refl, refl, refl, refl) ∙
     ap (after_of _) (sym (stop-vector _ _ _ _ _ _ _ _ _ _ _ _ c.vector_class-b.ensures _ _ (ap done_of c.in_default-b.is))) ∙ ap
     (after_of _) (sym (gave-starred _ _ _ _ _ _ _ _ _ c.starred-a.ensures _ _ _ (ap whether_of c.in-Is.is)))
 
