@@ -2,7 +2,6 @@
 use mathlib.Core.Path.{◌≡◌, refl}
 use mathlib.Core.List.{List, [], ◌∷◌}
 use Prim.Native.Nat.{ℕ}
-use types.Run.{OneOf, miss}
 use denote.Enum.Declared.{tag_of}
 use Rattle.rows.specs.declared.Cursor.{Cursor}
 use Rattle.rows.specs.declared.Trait.{Trait}
@@ -25,14 +24,14 @@ trait_after row (Inline n dynamic) = new_trait row n dynamic
 abbrev pub entered_trait : ℕ → Shape → Reader (Rest Trait)
 entered_trait row x = by (on_objects (entered row)) >> trait_after row x
 
-pub object-entered : (row : ℕ) (x : Shape) (m : Memory) (c : Cursor) (s : List ℕ) → OneOf (1 ∷ 2 ∷ 3 ∷ []) (tag_of shape.the_type x)
+pub object-entered : (row : ℕ) (x : Shape) (m : Memory) (c : Cursor) (s : List ℕ) → ((i : ℕ) → x ≡ Object i → ⊥)
     → reads (object_rest row x) m c s ≡ reads (entered_trait row x) m c s
 unfolding object_rest
-object-entered row (Object i) m c s k = absurd (miss (1 ∷ 2 ∷ 3 ∷ []) 0 tt k)
+object-entered row (Object i) m c s k = absurd (k i refl)
 object-entered row (Known i) m c s k = refl
 object-entered row External m c s k = refl
 object-entered row (Inline n dynamic) m c s k = refl
 
 -- a reference is none of these
-pub object-not-entered : (x : Shape) (i : ℕ) → OneOf (1 ∷ 2 ∷ 3 ∷ []) (tag_of shape.the_type x) → x ≡ Object i → ⊥
-object-not-entered x i k e = miss (1 ∷ 2 ∷ 3 ∷ []) 0 tt (rw e at k)
+pub object-not-entered : (x : Shape) (i : ℕ) → ((i : ℕ) → x ≡ Object i → ⊥) → x ≡ Object i → ⊥
+object-not-entered x i k e = k i e

@@ -38,9 +38,9 @@ loop-i-preserved c = record {
   left = λ R O U. then _ _ _ _ _ _ _ _ _ _ (ap text_of c.in-Have.is) (c.text-a.ensures R O U _) (then _ _ _ _ _ _ _ _ _ _ (ap text_of
       c.in-Have-b.is) (does_named _ _ _ _ _ _ _ _ _ _ _ c.named-b.ensures) refl) ∙ sym (names_more _ _ _ _ _ c.loop-i-test.true) ∙
       c.loop-i.invariant.left R O U;
-  store = c.text-a.auto.1.0 ∙ c.loop-i.invariant.store;
-  strings = c.text-a.auto.1.1.0 ∙ c.loop-i.invariant.strings;
-  names = c.named-b.auto.0 ∙ c.loop-i.invariant.names;
+  store = c.text-a.auto.store ∙ c.loop-i.invariant.store;
+  strings = c.text-a.auto.strings ∙ c.loop-i.invariant.strings;
+  names = c.named-b.auto.names ∙ c.loop-i.invariant.names;
 }
 
 pub returns : goal.returns

@@ -13,6 +13,6 @@ returns-in_default c = λ O. refused _ _ _ _ _ _ _ _ _ (ap text_of c.in_default.
 
 pub returns : goal.returns
 unfolding new_trait
-returns c = λ O. then _ _ _ _ _ _ _ _ _ _ (ap text_of c.in-Have.is) (c.text-a.ensures _ O _ _) (from-cursor (λ c. inline_trait c.args.row (trait_of
-    c.in-Have.s c.args.n c.args.dynamic c)) _ _ _ _ (chosen (inline_trait _) _ _ _ _ c.trait_of.ensures
+returns c = λ O. then _ _ _ _ _ _ _ _ _ _ (ap text_of c.in-Have.is) (c.text-a.ensures _ O _ _) (from-cursor (λ c'. inline_trait c.args.row (trait_of
+    c.in-Have.s c.args.n c.args.dynamic c')) _ _ _ _ (chosen (inline_trait _) _ _ _ _ c.trait_of.ensures
     (c.inline_trait.ensures O)))

@@ -29,11 +29,11 @@ pub returns-in_default-e : goal.returns-in_default-e
 unfolding object_head
 returns-in_default-e c = then _ _ _ _ _ _ _ _ _ _ (ap number_in c.in-Whole.is) (c.word-a.ensures.0 _) (chosen (object_rest _) _ _ _ _ c.shape_of-shape.ensures
     (refused _ _ _ _ _ _ _ _ _ (ap done_of c.in_default-e.is) (c.not_done-in_default-e.ensures _ c.in_default-e.is)
-    (does_entered _ _ _ _ _ _ _ _ _ _ _ c.entered-e.ensures) ∙ sym (object-entered _ _ _ _ _ c.in_default-shape.in_default-shape-own.keys2)))
+    (does_entered _ _ _ _ _ _ _ _ _ _ _ c.entered-e.ensures) ∙ sym (object-entered _ _ _ _ _ c.in_default-shape.not-Object)))
 
 pub returns-in-Object-shape : goal.returns-in-Object-shape
 returns-in-Object-shape c = absurd (object-not-entered _ _
-    c.in_default-shape.in_default-shape-own.keys2 c.in-Object-shape.is)
+    c.in_default-shape.not-Object c.in-Object-shape.is)
 
 pub returns-in-Known : goal.returns-in-Known
 unfolding object_head object_rest

@@ -48,8 +48,8 @@ pub returns-in-Fine-b : goal.returns-in-Fine-b
 unfolding size_head size_rest
 returns-in-Fine-b c = (
   λ B T U N. then _ _ _ _ _ _ _ _ _ _ (ap number_in c.in-Whole.is) (c.word-a.ensures.0 _) (chosen (size_rest _) _ _ _ _ (sym
-      c.in-New.is ∙ c.size_of-size.ensures) (then _ _ _ _ _ _ _ _ _ _ (ap done_of c.c.given.1) (does_entered _ _ _ _ _ _ _ _ _ _
+      c.in-New.is ∙ c.size_of-size.ensures) (then _ _ _ _ _ _ _ _ _ _ (ap done_of c.in-Fine-b.is) (does_entered _ _ _ _ _ _ _ _ _ _
       _ c.entered-b.ensures) (returned _ _ _ _))),
-  λ n c. new_bound n c _ _ (size_bound _ _ (c.word-a.ensures.1 _ _ c.in-Whole.is) (sym
+  λ n c'. new_bound n c' _ _ (size_bound _ _ (c.word-a.ensures.1 _ _ c.in-Whole.is) (sym
       c.in-New.is ∙ c.size_of-size.ensures)),
 )
