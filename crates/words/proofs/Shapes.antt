@@ -5,7 +5,6 @@ use mathlib.Core.List.{List, [], ◌∷◌}
 use Prim.Native.Nat.{ℕ, ◌/◌, ◌^◌, ◌<◌}
 use native.Mathlib.Omega.{arith}
 use lib.Dec.{eqb}
-use types.Run.{OneOf, miss}
 use denote.Enum.Declared.{tag_of}
 use Rattle.rows.specs.declared.Cursor.{Cursor}
 use Rattle.rows.specs.Memory.{Memory}
@@ -26,17 +25,17 @@ after_entered ts row (Known i) =
 after_entered ts row External = λ x. wait (at_string for_external) ts
 after_entered ts row (Inline n y) = λ x. wait (at_string (for_class row n y)) ts
 
-pub shape_entered : (ts : List Frame) (row : ℕ) (x : Shape) (c : Cursor) (m : Memory) → OneOf (1 ∷ 2 ∷ 3 ∷ []) (tag_of shape.the_type x)
+pub shape_entered : (ts : List Frame) (row : ℕ) (x : Shape) (c : Cursor) (m : Memory) → ((i : ℕ) → x ≡ Object i → ⊥)
     → object_shaped ts row x c m ≡ on (on_objects (entered row) m c) m (after_entered ts row x)
 unfolding object_shaped
-shape_entered ts row (Object i) c m k = absurd (miss (1 ∷ 2 ∷ 3 ∷ []) 0 tt k)
+shape_entered ts row (Object i) c m k = absurd (k i refl)
 shape_entered ts row (Known i) c m k = refl
 shape_entered ts row External c m k = refl
 shape_entered ts row (Inline n y) c m k = refl
 
 -- a reference is none of these
-pub never-entered : (x : Shape) (i : ℕ) → OneOf (1 ∷ 2 ∷ 3 ∷ []) (tag_of shape.the_type x) → x ≡ Object i → ⊥
-never-entered x i k e = miss (1 ∷ 2 ∷ 3 ∷ []) 0 tt (rw e at k)
+pub never-entered : (x : Shape) (i : ℕ) → ((i : ℕ) → x ≡ Object i → ⊥) → x ≡ Object i → ⊥
+never-entered x i k e = k i e
 
 pub size_small : (w n : ℕ) → size_of w ≡ New n → w < 2 ^ 30 → n < 2 ^ 30
 unfolding size_of
