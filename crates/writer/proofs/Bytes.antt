@@ -13,7 +13,6 @@ use Rattle.wire.specs.declared.Put.TheVariants as wirePut
 use Rattle.wire.specs.Put.{with1, put_at}
 use Rattle.format.specs.Writing.{these, stream_bytes}
 use Rattle.format.proofs.Tests.{clash}
-use Rattle.writer.specs.declared.Put.{Put}
 use Rattle.writer.specs.declared.Put.TheVariants.{At, Stop}
 use Rattle.writer.specs.Run.{ran, run}
 use Rattle.writer.proofs.Streams.{left, fits, past, these-bytes, these-end}

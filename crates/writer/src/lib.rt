@@ -425,7 +425,7 @@ fn put_vector_head(
 // ---- values in values: one cycle of calls, over how many may still open
 
 // `n` values, from row `first` on.
-#[cycle(write_array_write_dictionary_write_items_write_object_write_pairs_write_value_write_vector)]
+#[cycle(written)]
 fn write_items(
     rows: &[usize],
     store: &[u8],
@@ -455,7 +455,7 @@ fn write_items(
 }
 
 // `n` keys with their values, from row `first` on.
-#[cycle(write_array_write_dictionary_write_items_write_object_write_pairs_write_value_write_vector)]
+#[cycle(written)]
 fn write_pairs(
     rows: &[usize],
     store: &[u8],
@@ -488,7 +488,7 @@ fn write_pairs(
     Put::At(p)
 }
 
-#[cycle(write_array_write_dictionary_write_items_write_object_write_pairs_write_value_write_vector)]
+#[cycle(written)]
 fn write_array(
     rows: &[usize],
     store: &[u8],
@@ -519,7 +519,7 @@ fn write_array(
     write_items(rows, store, out, s, k, count2, left, dry)
 }
 
-#[cycle(write_array_write_dictionary_write_items_write_object_write_pairs_write_value_write_vector)]
+#[cycle(written)]
 fn write_object(
     rows: &[usize],
     store: &[u8],
@@ -553,7 +553,7 @@ fn write_object(
     put_byte(out, s, EMPTY_TEXT, dry)
 }
 
-#[cycle(write_array_write_dictionary_write_items_write_object_write_pairs_write_value_write_vector)]
+#[cycle(written)]
 fn write_vector(
     rows: &[usize],
     store: &[u8],
@@ -583,7 +583,7 @@ fn write_vector(
 }
 
 // A couple is two values, one behind the other.
-#[cycle(write_array_write_dictionary_write_items_write_object_write_pairs_write_value_write_vector)]
+#[cycle(written)]
 fn write_dictionary(
     rows: &[usize],
     store: &[u8],
@@ -612,7 +612,7 @@ fn write_dictionary(
 }
 
 // The value of a row, where `left` values may still open.
-#[cycle(write_array_write_dictionary_write_items_write_object_write_pairs_write_value_write_vector)]
+#[cycle(written)]
 fn write_value(
     rows: &[usize],
     store: &[u8],

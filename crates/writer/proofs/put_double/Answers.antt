@@ -1,0 +1,11 @@
+use Rattle.writer.proofs.Streams as streams
+use Rattle.format.specs.Standard.{encode_plain}
+use Rattle.writer.proofs.put_double.Goals as goal
+
+pub returns-in_default : goal.returns-in_default
+unfolding encode_plain
+returns-in_default c = streams.join-stop _ _ _ _ _ c.put_byte-a.ensures c.in_default.is
+
+pub returns : goal.returns
+unfolding encode_plain
+returns c = streams.join-go _ _ _ _ _ c.put_byte-a.ensures c.in-At.is c.put_eight.ensures
