@@ -3,7 +3,6 @@ use mathlib.Core.Path.{◌≡◌, refl, ap, ◌∙◌}
 use mathlib.Core.List.{List, [], ◌∷◌}
 use Prim.Native.Nat.{ℕ}
 use lib.ListN.{drop}
-use types.Run.{OneOf, miss}
 use denote.Enum.Declared.{tag_of}
 use Rattle.rows.specs.declared.Cursor.{Cursor}
 use Rattle.rows.specs.declared.Trait.{Trait}
@@ -98,13 +97,13 @@ Over (stop n told place) = Unit
 Over (give nothing x c) = Unit
 Over (give (rest a) x c) = ⊥
 
-pub sized-over : (a : Sized) → OneOf (1 ∷ 2 ∷ []) (tag_of sized·type.the_type a) → Over (sized_of a)
-sized-over (sized·is.New n c) k = absurd (miss (1 ∷ 2 ∷ []) 0 tt k)
+pub sized-over : (a : Sized) → ((n : ℕ) (c : Cursor) → a ≡ sized·is.New n c → ⊥) → Over (sized_of a)
+sized-over (sized·is.New n c) k = absurd (k n c refl)
 sized-over (sized·is.Over c) k = tt
 sized-over (sized·is.No r) k = tt
 
-pub classed-over : (a : Classed) → OneOf (1 ∷ 2 ∷ []) (tag_of classed·type.the_type a) → Over (classed_of a)
-classed-over (classed·is.Of t c) k = absurd (miss (1 ∷ 2 ∷ []) 0 tt k)
+pub classed-over : (a : Classed) → ((t : Trait) (c : Cursor) → a ≡ classed·is.Of t c → ⊥) → Over (classed_of a)
+classed-over (classed·is.Of t c) k = absurd (k t c refl)
 classed-over (classed·is.Over c) k = tt
 classed-over (classed·is.No r) k = tt
 

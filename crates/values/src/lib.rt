@@ -19,7 +19,7 @@ use scan::Number;
 // ---- entries
 
 // Values with no key.
-#[cycle(array_couples_dictionary_items_marked_new_value_object_object_members_pairs_sealed_sized_value_value_vector)]
+#[cycle(reading)]
 fn items(
     message: &[u8],
     rows: &mut [usize],
@@ -65,7 +65,7 @@ fn items(
 }
 
 // Entries of a key and a value, both values.
-#[cycle(array_couples_dictionary_items_marked_new_value_object_object_members_pairs_sealed_sized_value_value_vector)]
+#[cycle(reading)]
 fn couples(
     message: &[u8],
     rows: &mut [usize],
@@ -129,7 +129,7 @@ fn couples(
 }
 
 // Sealed members, their keys the names of the trait.
-#[cycle(array_couples_dictionary_items_marked_new_value_object_object_members_pairs_sealed_sized_value_value_vector)]
+#[cycle(reading)]
 fn sealed(
     message: &[u8],
     rows: &mut [usize],
@@ -172,7 +172,7 @@ fn sealed(
 }
 
 // Pairs of a key and a value, up to the empty key. Each key takes at least a byte.
-#[cycle(array_couples_dictionary_items_marked_new_value_object_object_members_pairs_sealed_sized_value_value_vector)]
+#[cycle(reading)]
 fn pairs(
     message: &[u8],
     rows: &mut [usize],
@@ -224,7 +224,7 @@ fn pairs(
 
 // ---- containers
 
-#[cycle(array_couples_dictionary_items_marked_new_value_object_object_members_pairs_sealed_sized_value_value_vector)]
+#[cycle(reading)]
 fn array(
     message: &[u8],
     rows: &mut [usize],
@@ -276,7 +276,7 @@ fn array(
     decide::closed(rows, c2, row)
 }
 
-#[cycle(array_couples_dictionary_items_marked_new_value_object_object_members_pairs_sealed_sized_value_value_vector)]
+#[cycle(reading)]
 fn object_members(
     message: &[u8],
     rows: &mut [usize],
@@ -320,7 +320,7 @@ fn object_members(
     decide::closed(rows, c2, row)
 }
 
-#[cycle(array_couples_dictionary_items_marked_new_value_object_object_members_pairs_sealed_sized_value_value_vector)]
+#[cycle(reading)]
 fn object(
     message: &[u8],
     rows: &mut [usize],
@@ -347,7 +347,7 @@ fn object(
 }
 
 // A vector of objects.
-#[cycle(array_couples_dictionary_items_marked_new_value_object_object_members_pairs_sealed_sized_value_value_vector)]
+#[cycle(reading)]
 fn vector(
     message: &[u8],
     rows: &mut [usize],
@@ -387,7 +387,7 @@ fn vector(
     decide::closed(rows, c2, row)
 }
 
-#[cycle(array_couples_dictionary_items_marked_new_value_object_object_members_pairs_sealed_sized_value_value_vector)]
+#[cycle(reading)]
 fn dictionary(
     message: &[u8],
     rows: &mut [usize],
@@ -419,7 +419,7 @@ fn dictionary(
 // ---- values
 
 // A new value, its size word read.
-#[cycle(array_couples_dictionary_items_marked_new_value_object_object_members_pairs_sealed_sized_value_value_vector)]
+#[cycle(reading)]
 fn new_value(
     message: &[u8],
     rows: &mut [usize],
@@ -456,7 +456,7 @@ fn new_value(
 }
 
 // A value that begins with a size word.
-#[cycle(array_couples_dictionary_items_marked_new_value_object_object_members_pairs_sealed_sized_value_value_vector)]
+#[cycle(reading)]
 fn sized_value(
     message: &[u8],
     rows: &mut [usize],
@@ -482,7 +482,7 @@ fn sized_value(
 }
 
 // What a marker is followed by.
-#[cycle(array_couples_dictionary_items_marked_new_value_object_object_members_pairs_sealed_sized_value_value_vector)]
+#[cycle(reading)]
 fn marked(
     message: &[u8],
     rows: &mut [usize],
@@ -524,7 +524,7 @@ fn marked(
 }
 
 // A value, where `left` may still open.
-#[cycle(array_couples_dictionary_items_marked_new_value_object_object_members_pairs_sealed_sized_value_value_vector)]
+#[cycle(reading)]
 pub fn value(
     message: &[u8],
     rows: &mut [usize],
