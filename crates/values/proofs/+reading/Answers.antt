@@ -25,9 +25,6 @@ array-pairs-a-requires t c = (
 pub array-enum_known-a : goal.array-enum_known-a
 array-enum_known-a t c = c.in-Fine.in-Fine-own.keys1
 
-pub array-enum_told-1 : goal.array-enum_told-1
-array-enum_told-1 t c = c.in_default.in_default-own.keys2
-
 pub array-returns-in_default : goal.array-returns-in_default
 unfolding new_of
 array-returns-in_default t c = passed _ _ _ _ _ _ _ _ (ap done_of c.in_default.is) (passed _ _ _ _ _ _ _ _ (ap done_of c.in_default.is)
@@ -41,9 +38,6 @@ array-items-b-requires t c = (
 
 pub array-enum_known-b : goal.array-enum_known-b
 array-enum_known-b t c = c.in-Fine-b.in-Fine-b-own.keys1
-
-pub array-enum_told-in_default-b : goal.array-enum_told-in_default-b
-array-enum_told-in_default-b t c = c.in_default-b.in_default-b-own.keys2
 
 pub array-returns-in_default-b : goal.array-returns-in_default-b
 unfolding new_of
@@ -67,9 +61,6 @@ couples-value-a-requires t c = (
 pub couples-enum_known-a : goal.couples-enum_known-a
 couples-enum_known-a t c = c.in-Fine.in-Fine-own.keys1
 
-pub couples-enum_told-1 : goal.couples-enum_told-1
-couples-enum_told-1 t c = c.in_default.in_default-own.keys2
-
 pub couples-returns-in_default : goal.couples-returns-in_default
 unfolding couple
 couples-returns-in_default t c = entries-stop c.loop-i.invariant c.loop-i-test.true _ _ _ (ap done_of c.in_default.is) (passed _ _ _ _ _ _ _ _ (ap done_of
@@ -78,9 +69,6 @@ couples-returns-in_default t c = entries-stop c.loop-i.invariant c.loop-i-test.t
 
 pub couples-enum_known-k : goal.couples-enum_known-k
 couples-enum_known-k t c = c.in-Fine-k.in-Fine-k-own.keys1
-
-pub couples-enum_told-in_default-k : goal.couples-enum_told-in_default-k
-couples-enum_told-in_default-k t c = c.in_default-k.in_default-k-own.keys2
 
 pub couples-returns-in_default-k : goal.couples-returns-in_default-k
 unfolding couple
@@ -97,9 +85,6 @@ couples-value-b-requires t c = (
 pub couples-enum_known-b : goal.couples-enum_known-b
 couples-enum_known-b t c = c.in-Fine-b.in-Fine-b-own.keys1
 
-pub couples-enum_told-in_default-b : goal.couples-enum_told-in_default-b
-couples-enum_told-in_default-b t c = c.in_default-b.in_default-b-own.keys2
-
 pub couples-returns-in_default-b : goal.couples-returns-in_default-b
 unfolding couple
 couples-returns-in_default-b t c = entries-stop c.loop-i.invariant c.loop-i-test.true _ _ _ (ap done_of c.in_default-b.is) (then _ _ _ _ _ _ _ _ _ _ (ap done_of
@@ -109,9 +94,6 @@ couples-returns-in_default-b t c = entries-stop c.loop-i.invariant c.loop-i-test
 
 pub couples-enum_known-e : goal.couples-enum_known-e
 couples-enum_known-e t c = c.in-Fine-e.in-Fine-e-own.keys1
-
-pub couples-enum_told-in_default-e : goal.couples-enum_told-in_default-e
-couples-enum_told-in_default-e t c = c.in_default-e.in_default-e-own.keys2
 
 pub couples-returns-in_default-e : goal.couples-returns-in_default-e
 unfolding couple
@@ -163,9 +145,6 @@ couples-returns t c = entries-end c.loop-i.invariant c.loop-i-test.false
 pub dictionary-enum_known-a : goal.dictionary-enum_known-a
 dictionary-enum_known-a t c = c.in-Fine.in-Fine-own.keys1
 
-pub dictionary-enum_told-1 : goal.dictionary-enum_told-1
-dictionary-enum_told-1 t c = c.in_default.in_default-own.keys2
-
 pub dictionary-returns-in_default : goal.dictionary-returns-in_default
 dictionary-returns-in_default t c = dictionary-split _ _ _ _ _ _ (passed _ _ _ _ _ _ _ _ (ap done_of c.in_default.is) (passed _ _ _ _ _ _ _ _ (ap done_of
     c.in_default.is) (c.weak_flag-a.ensures _ _ _ _ _)))
@@ -178,9 +157,6 @@ dictionary-couples-b-requires t c = (
 
 pub dictionary-enum_known-b : goal.dictionary-enum_known-b
 dictionary-enum_known-b t c = c.in-Fine-b.in-Fine-b-own.keys1
-
-pub dictionary-enum_told-in_default-b : goal.dictionary-enum_told-in_default-b
-dictionary-enum_told-in_default-b t c = c.in_default-b.in_default-b-own.keys2
 
 pub dictionary-returns-in_default-b : goal.dictionary-returns-in_default-b
 dictionary-returns-in_default-b t c = dictionary-split _ _ _ _ _ _ (passed _ _ _ _ _ _ _ _ (ap done_of c.in_default-b.is) (then _ _ _ _ _ _ _ _ _ _ (ap done_of
@@ -202,18 +178,12 @@ items-value-a-requires t c = (
 pub items-enum_known-a : goal.items-enum_known-a
 items-enum_known-a t c = c.in-Fine.in-Fine-own.keys1
 
-pub items-enum_told-1 : goal.items-enum_told-1
-items-enum_told-1 t c = c.in_default.in_default-own.keys2
-
 pub items-returns-in_default : goal.items-returns-in_default
 items-returns-in_default t c = entries-stop c.loop-i.invariant c.loop-i-test.true _ _ _ (ap done_of c.in_default.is) (chosen (value c.args.left) _ _ _ _
     c.no_key.ensures c.value-a.ensures)
 
 pub items-enum_known-b : goal.items-enum_known-b
 items-enum_known-b t c = c.in-Fine-b.in-Fine-b-own.keys1
-
-pub items-enum_told-in_default-b : goal.items-enum_told-in_default-b
-items-enum_told-in_default-b t c = c.in_default-b.in_default-b-own.keys2
 
 pub items-returns-in_default-b : goal.items-returns-in_default-b
 items-returns-in_default-b t c = entries_uncounted c.loop-i.invariant c.loop-i-test.true _ _ _ _ _ (ap done_of c.in-Fine.is) (chosen (value c.args.left) _ _ _ _
@@ -256,9 +226,6 @@ items-returns t c = entries-end c.loop-i.invariant c.loop-i-test.false
 pub marked-enum_told-1 : goal.marked-enum_told-1
 marked-enum_told-1 t c = c.in-Leaf.in-Leaf-own.keys1
 
-pub marked-enum_told-in-Integer : goal.marked-enum_told-in-Integer
-marked-enum_told-in-Integer t c = c.in-Integer.in-Integer-own.keys2
-
 pub marked-enum_told-in-Double : goal.marked-enum_told-in-Double
 marked-enum_told-in-Double t c = c.in-Double.in-Double-own.keys3
 
@@ -297,9 +264,6 @@ marked-returns-in-Sized t c = chosen (marked (value c.args.left) c.args.row) _ _
 
 pub new_value-enum_told-1 : goal.new_value-enum_told-1
 new_value-enum_told-1 t c = c.in-Xml.in-Xml-own.keys1
-
-pub new_value-enum_told-in-Date : goal.new_value-enum_told-in-Date
-new_value-enum_told-in-Date t c = c.in-Date.in-Date-own.keys2
 
 pub new_value-enum_told-in-Array : goal.new_value-enum_told-in-Array
 new_value-enum_told-in-Array t c = c.in-Array.in-Array-own.keys3
@@ -376,9 +340,6 @@ object_members-sealed-a-requires t c = (
 pub object_members-enum_known-a : goal.object_members-enum_known-a
 object_members-enum_known-a t c = c.in-Fine.in-Fine-own.keys1
 
-pub object_members-enum_told-1 : goal.object_members-enum_told-1
-object_members-enum_told-1 t c = c.in_default.in_default-own.keys2
-
 pub object_members-returns-in_default : goal.object_members-returns-in_default
 unfolding members
 object_members-returns-in_default t c = passed _ _ _ _ _ _ _ _ (ap done_of c.in_default.is) (passed _ _ _ _ _ _ _ _ (ap done_of c.in_default.is)
@@ -398,9 +359,6 @@ object_members-pairs-b-requires t c = (
 pub object_members-enum_known-b : goal.object_members-enum_known-b
 object_members-enum_known-b t c = c.in-Fine-b.in-Fine-b-own.keys1
 
-pub object_members-enum_told-in_default-b : goal.object_members-enum_told-in_default-b
-object_members-enum_told-in_default-b t c = c.in_default-b.in_default-b-own.keys2
-
 pub object_members-returns-in_default-b : goal.object_members-returns-in_default-b
 unfolding members
 object_members-returns-in_default-b t c = passed _ _ _ _ _ _ _ _ (ap done_of c.in_default-b.is) (then _ _ _ _ _ _ _ _ _ _ (ap done_of c.in-Fine.is) c.sealed-a.ensures
@@ -416,9 +374,6 @@ pairs-loop-s-init t c = pairs_start
 
 pub pairs-enum_known-k : goal.pairs-enum_known-k
 pairs-enum_known-k t c = c.in-Have.in-Have-own.keys1
-
-pub pairs-enum_told-1 : goal.pairs-enum_told-1
-pairs-enum_told-1 t c = c.in_default.in_default-own.keys2
 
 pub pairs-returns-in_default : goal.pairs-returns-in_default
 pairs-returns-in_default t c = pairs-stop c.loop-s.invariant _ _ (c.text-k.ensures _ _ _ _) _ _ (ap text_of c.in_default.is) (c.no_text.ensures _
@@ -436,18 +391,12 @@ pairs-value-a-requires t c = (
 pub pairs-enum_known-a : goal.pairs-enum_known-a
 pairs-enum_known-a t c = c.in-Fine.in-Fine-own.keys1
 
-pub pairs-enum_told-in_default-a : goal.pairs-enum_told-in_default-a
-pairs-enum_told-in_default-a t c = c.in_default-a.in_default-a-own.keys2
-
 pub pairs-returns-in_default-a : goal.pairs-returns-in_default-a
 pairs-returns-in_default-a t c = pairs-refused c.loop-s.invariant _ _ (c.text-k.ensures _ _ _ _) _ _ (ap text_of c.in-Have.is) c.if-s-eq0.false _ _ (chosen (value
     c.args.left) _ _ _ _ c.key_of.ensures c.value-a.ensures) _ (ap done_of c.in_default-a.is)
 
 pub pairs-enum_known-b : goal.pairs-enum_known-b
 pairs-enum_known-b t c = c.in-Fine-b.in-Fine-b-own.keys1
-
-pub pairs-enum_told-in_default-b : goal.pairs-enum_told-in_default-b
-pairs-enum_told-in_default-b t c = c.in_default-b.in_default-b-own.keys2
 
 pub pairs-returns-in_default-b : goal.pairs-returns-in_default-b
 pairs-returns-in_default-b t c = pairs_uncounted c.loop-s.invariant _ _ (c.text-k.ensures _ _ _ _) _ _ (ap text_of c.in-Have.is) c.if-s-eq0.false _ _ (chosen (value
@@ -492,9 +441,6 @@ sealed-loop-i-init t c = (entries-start, omega arith)
 pub sealed-enum_known-k : goal.sealed-enum_known-k
 sealed-enum_known-k t c = c.in-With.in-With-own.keys1
 
-pub sealed-enum_told-1 : goal.sealed-enum_told-1
-sealed-enum_told-1 t c = c.in_default.in_default-own.keys2
-
 pub sealed-returns-in_default : goal.sealed-returns-in_default
 sealed-returns-in_default t c = entries-stop c.loop-i.invariant.0 c.loop-i-test.true _ _ c.no_key.result refl (refused _ _ _ _ _ _ _ _ _ (ap keyed_of
     c.in_default.is) (c.no_key.ensures _ c.in_default.is) (chosen (λ i. by (d.looking (λ m. d.sealed_key i
@@ -509,9 +455,6 @@ sealed-value-a-requires t c = (
 pub sealed-enum_known-a : goal.sealed-enum_known-a
 sealed-enum_known-a t c = c.in-Fine.in-Fine-own.keys1
 
-pub sealed-enum_told-in_default-a : goal.sealed-enum_told-in_default-a
-sealed-enum_told-in_default-a t c = c.in_default-a.in_default-a-own.keys2
-
 pub sealed-returns-in_default-a : goal.sealed-returns-in_default-a
 sealed-returns-in_default-a t c = entries-stop c.loop-i.invariant.0 c.loop-i-test.true _ _ _ (ap done_of c.in_default-a.is) (then _ _ _ _ _ _ _ _ _ _ (ap keyed_of
     c.in-With.is) (chosen (λ i. by (d.looking (λ m. d.sealed_key i m.names))) _ _ _ _ c.loop-i.invariant.1 (does_sealed-key _ _ _ _ _ _ _ _ _
@@ -519,9 +462,6 @@ sealed-returns-in_default-a t c = entries-stop c.loop-i.invariant.0 c.loop-i-tes
 
 pub sealed-enum_known-b : goal.sealed-enum_known-b
 sealed-enum_known-b t c = c.in-Fine-b.in-Fine-b-own.keys1
-
-pub sealed-enum_told-in_default-b : goal.sealed-enum_told-in_default-b
-sealed-enum_told-in_default-b t c = c.in_default-b.in_default-b-own.keys2
 
 pub sealed-returns-in_default-b : goal.sealed-returns-in_default-b
 sealed-returns-in_default-b t c = entries_uncounted c.loop-i.invariant.0 c.loop-i-test.true _ _ _ _ _ (ap done_of c.in-Fine.is) (then _ _ _ _ _ _ _ _ _ _ (ap keyed_of
@@ -622,18 +562,12 @@ sized_value-returns t c = sized-split _ _ _ _ _ _ (then _ _ _ _ _ _ _ _ _ _ (ap 
 pub value-enum_known-w : goal.value-enum_known-w
 value-enum_known-w t c = c.in-Whole.in-Whole-own.keys1
 
-pub value-enum_told-1 : goal.value-enum_told-1
-value-enum_told-1 t c = c.in_default.in_default-own.keys2
-
 pub value-returns-in_default : goal.value-returns-in_default
 value-returns-in_default t c = value-short _ _ _ _ _ _ (c.byte-w.ensures _) _ _ _ (ap number_in c.in_default.is)
     (c.no_number.ensures _ c.in_default.is)
 
 pub value-enum_known-g : goal.value-enum_known-g
 value-enum_known-g t c = c.in-Row.in-Row-own.keys1
-
-pub value-enum_told-in_default-g : goal.value-enum_told-in_default-g
-value-enum_told-in_default-g t c = c.in_default-g.in_default-g-own.keys2
 
 pub value-returns-in_default-g : goal.value-returns-in_default-g
 value-returns-in_default-g t c = value-marker _ _ _ _ _ _ (c.byte-w.ensures _) _ _ (ap number_in c.in-Whole.is) _ _ _ _ _ (does_marker _ _ _ _ _ _ _ _ _ _ _ _ _
@@ -659,9 +593,6 @@ value-returns t c = value-marked _ _ _ _ _ _ (c.byte-w.ensures _) _ _ (ap number
 pub vector-enum_known-a : goal.vector-enum_known-a
 vector-enum_known-a t c = c.in-Fine.in-Fine-own.keys1
 
-pub vector-enum_told-1 : goal.vector-enum_told-1
-vector-enum_told-1 t c = c.in_default.in_default-own.keys2
-
 pub vector-returns-in_default : goal.vector-returns-in_default
 vector-returns-in_default t c = vector-split _ _ _ _ _ _ (passed _ _ _ _ _ _ _ _ (ap done_of c.in_default.is) (passed _ _ _ _ _ _ _ _ (ap done_of
     c.in_default.is) (c.vector_head-a.ensures _ _ _)))
@@ -674,9 +605,6 @@ vector-items-b-requires t c = (
 
 pub vector-enum_known-b : goal.vector-enum_known-b
 vector-enum_known-b t c = c.in-Fine-b.in-Fine-b-own.keys1
-
-pub vector-enum_told-in_default-b : goal.vector-enum_told-in_default-b
-vector-enum_told-in_default-b t c = c.in_default-b.in_default-b-own.keys2
 
 pub vector-returns-in_default-b : goal.vector-returns-in_default-b
 vector-returns-in_default-b t c = vector-split _ _ _ _ _ _ (passed _ _ _ _ _ _ _ _ (ap done_of c.in_default-b.is) (then _ _ _ _ _ _ _ _ _ _ (ap done_of c.in-Fine.is)
