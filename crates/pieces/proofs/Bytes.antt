@@ -8,7 +8,6 @@ use native.Mathlib.Nat.{add-zero}
 use lib.Dec.{leb, eqb}
 use lib.ListN.{length}
 use borrow.Author.Tests.{eqb-true}
-use types.Run.{OneOf, miss}
 use denote.Enum.Declared.{tag_of}
 use Rattle.rows.specs.declared.Cursor.{Cursor}
 use Rattle.rows.specs.Memory.{Memory, fault_of, message_limit, open_limit}
@@ -156,16 +155,16 @@ module _ (b : ℕ) (octet : b < 2 ^ 8) (h : Head) (F : List ℕ) (m : Memory) wh
           rw (leaves-held, after-shown, cost-after, e)
 
       -- an end stays
-      still : (s : State) → state_in leaves ≡ s → Shown s → settled (after a F' m') ≡ after_of F s → OneOf (1 ∷ 2 ∷ []) (tag_of next.the_type a)
+      still : (s : State) → state_in leaves ≡ s → Shown s → settled (after a F' m') ≡ after_of F s → ((w : Work) (c : Cursor) (d : ℕ) → a ≡ Wait w c d → ⊥)
           → (k : Held) → state_in k ≡ s → (bs : List ℕ) → (run_held k bs ≡ k) × (taken_by k bs ≡ 0)
       unfolding after_of
       still (wait x ts c k) p sh e o (held n j) q bs =
           let w : a ≡ Wait (work_of x) c (length ts) = sym (settles a F' m') ∙ ap next_in e in
-          absurd (miss (1 ∷ 2 ∷ []) 0 tt (rw w at o))
+          absurd (o _ _ _ w)
       still (over r) p sh e o (held n j) q bs = (run-still n j r q bs, taken-still n j r q bs)
       still (none k) p sh e o (held n j) q bs = absurd sh
 
-      module _ (ends : OneOf (1 ∷ 2 ∷ []) (tag_of next.the_type a)) (bs : List ℕ) where
+      module _ (ends : ((w : Work) (c : Cursor) (d : ℕ) → a ≡ Wait w c d → ⊥)) (bs : List ℕ) where
         stays : (run_held leaves bs ≡ leaves) × (taken_by leaves bs ≡ 0)
         stays =
             let e : state_in leaves ≡ state_after b h F m = ap state_in leaves-held ∙ after-shown in

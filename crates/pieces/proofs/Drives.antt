@@ -8,7 +8,6 @@ use native.Mathlib.Omega.{arith}
 use lib.ListN.{length, get_or, take, drop, drop_of_length-le, take-append-drop}
 use lib.Seq.{sets, slice, drop-cons, drop-append-le, length-take-le, length-slice, take_at, get_or-drop}
 use lib.Dec.{leb, eqb, lit<}
-use types.Run.{OneOf, hit}
 use denote.Enum.Declared.{tag_of}
 use Rattle.rows.specs.declared.Cursor.{Cursor}
 use Rattle.rows.specs.Memory.{Memory, memory, message_limit}
@@ -122,8 +121,8 @@ module _ (w₀ : Work) (c₀ : Cursor) (d₀ : ℕ) (F₀ : List ℕ) (m₀ : Me
       driven_lost r q p =
           let t = not_sound b hd F m refl false (rw (← lent) (sym (v.ready.0 ∙ p))) r q refl in
           let e : drop i piece ≡ b ∷ drop (i + 1) piece = rw add-one (drop-cons piece i 0 low) in
-          let run = runs_last b (octets i) hd F m refl v.room (Refused r) F m t (hit (1 ∷ 2 ∷ []) 2 tt) (drop (i + 1) piece) in
-          let take = takes-last b (octets i) hd F m refl v.room (Refused r) F m t (hit (1 ∷ 2 ∷ []) 2 tt) (drop (i + 1) piece) in
+          let run = runs_last b (octets i) hd F m refl v.room (Refused r) F m t (λ w c d e. cc) (drop (i + 1) piece) in
+          let take = takes-last b (octets i) hd F m refl v.room (Refused r) F m t (λ w c d e. cc) (drop (i + 1) piece) in
           let z : cost_of (Refused r) ≡ 0 = rw q in
           (sym run ∙ sym (ap (run_held (from w c d F m)) e) ∙ v.runs, (let k = rw (e, take) at v.takes in omega arith))
 
@@ -152,7 +151,7 @@ module _ (w₀ : Work) (c₀ : Cursor) (d₀ : ℕ) (F₀ : List ℕ) (m₀ : Me
             }
 
         -- a step that ends
-        pub driven_end : (a : Next) (F' : List ℕ) (m' : Memory) (n : ℕ) → n ≡ cost_of a → OneOf (1 ∷ 2 ∷ []) (tag_of next.the_type a)
+        pub driven_end : (a : Next) (F' : List ℕ) (m' : Memory) (n : ℕ) → n ≡ cost_of a → ((w : Work) (c : Cursor) (d : ℕ) → a ≡ Wait w c d → ⊥)
             → settled (after a F' m') ≡ after_of F (step b (wait (mode_of w) (frames_of F d) c m))
             → (held_of (lent_of m₀) (settled (after a F' m')) ≡ run_held (from w₀ c₀ d₀ F₀ m₀) (drop 1 piece))
             × (i + n ≡ suc (taken_by (from w₀ c₀ d₀ F₀ m₀) (drop 1 piece)))
@@ -228,7 +227,7 @@ module _ (h : Head) (F : List ℕ) (m : Memory) (piece : List ℕ) where
     first = drop-cons piece 0 0 some
 
     -- the first byte ends it
-    pub first_ends : OneOf (1 ∷ 2 ∷ []) (tag_of next.the_type a) → (m'' : Memory) (h' : Head) (n : ℕ) → after a F' m'' ≡ settled (after a F' m')
+    pub first_ends : ((w : Work) (c : Cursor) (d : ℕ) → a ≡ Wait w c d → ⊥) → (m'' : Memory) (h' : Head) (n : ℕ) → after a F' m'' ≡ settled (after a F' m')
         → h' ≡ head_of h.lent a → n ≡ cost_of a → (held (numbers h' F') m'' ≡ run_held start piece) × (n ≡ taken_by start piece)
     first_ends o m'' h' n p q r = (
       ap (λ (k : Head). held (numbers k F') m'') q ∙ ap (held_of h.lent) p ∙ sym (ap (run_held start) first

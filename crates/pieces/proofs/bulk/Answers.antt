@@ -1,0 +1,18 @@
+use native.Mathlib.Omega.{arith}
+use Rattle.rows.specs.Memory.{message_limit}
+use borrow.Author.Rules.{rules}
+use Rattle.pieces.proofs.bulk.Goals as goal
+
+pub overflow_sub-c : goal.overflow_sub-c
+unfolding message_limit
+overflow_sub-c c = omega (arith, c.requires)
+
+pub returns : goal.returns
+unfolding message_limit
+returns c = λ h. (
+  omega (arith, c.if-w-lt-TEXT.false),
+  omega (arith, c.least.ensures.0, c.least-2.ensures.0),
+  omega (arith, c.least.ensures.1, c.least-2.ensures.0),
+  omega
+      (arith, c.least-2.ensures.1, c.requires),
+)

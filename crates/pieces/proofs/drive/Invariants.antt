@@ -1,0 +1,18 @@
+use borrow.Author.Rules.{rules}
+use native.Mathlib.Omega.{arith}
+use mathlib.Core.Path.{sym, ◌∙◌}
+use Prim.Native.Nat.{◌-◌}
+use lib.ListN.{length}
+use borrow.Author.Tests.{not-true, not-false}
+use Rattle.rows.specs.Memory.{memory, message_limit}
+use Rattle.pieces.proofs.Costs.{cost-most}
+use Rattle.pieces.proofs.Drives.{ran-is, Driven, ready-deep, ready-within, driven_first, driven_all, driven_lost, driven_on, driven_end, driven_fills, driven_past}
+use Rattle.pieces.proofs.Bytes.{nearly_ready}
+use Rattle.pieces.proofs.drive.Given as goal
+
+abbrev pub invariant-loop-i : goal.invariant-loop-i
+invariant-loop-i l = Driven l.initial.w l.initial.c l.initial.depth l.initial.frames (memory l.initial.rows l.initial.store l.initial.strings l.initial.objects l.initial.traits l.initial.names) l.piece l.w l.c l.depth l.frames
+    (memory l.rows l.store l.strings l.objects l.traits l.names) l.i
+
+abbrev pub decreases-loop-i : goal.decreases-loop-i
+decreases-loop-i l = length l.piece - l.i
