@@ -1,0 +1,11 @@
+use mathlib.Core.Path.{sym, ◌∙◌}
+use Rattle.feed.proofs.Calls.{end_stays, end-refuses}
+use borrow.Author.Rules.{rules}
+use Rattle.feed.proofs.ended.Goals as goal
+
+pub returns-then-has_ended : goal.returns-then-has_ended
+returns-then-has_ended c = c.answered.ensures _ ∙ end_stays _ _ _ (sym c.has_ended.ensures ∙ c.if-has_ended.true)
+
+pub returns : goal.returns
+returns c = c.answered-2.ensures _ ∙ end-refuses _ _ _ _ _ _ (sym c.has_ended.ensures ∙ c.if-has_ended.false) c.end_refusal.ensures
+    c.head_after.ensures c.clear.ensures

@@ -1,0 +1,9 @@
+use Rattle.feed.proofs.Calls.{fed_in}
+use Rattle.pieces.proofs.Drives.{ran-parts}
+use borrow.Author.Rules.{rules}
+use Rattle.feed.proofs.fed_in.Goals as goal
+
+pub returns : goal.returns
+returns c = fed_in _ _ _ _ _ _ _ _ (ran-parts
+    c.run-ran.ensures)
+    (c.answer_of.ensures _ _)
