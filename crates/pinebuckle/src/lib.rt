@@ -1,5 +1,5 @@
-// The public calls, and the same as C has them. For C numbers are 64 bits, a slice is a pointer and a count of elements; include/pinebuckle.h declares
-// them.
+// The public calls, and the same as C has them, which the static library pinebuckle_c exports. For C numbers are 64 bits, a slice is a pointer and a count of
+// elements; include/pinebuckle.h declares them.
 
 use format::{Frames, Head};
 use text::Found;
@@ -279,8 +279,7 @@ fn begun_coded(
 }
 
 // `begin`.
-#[unsafe(no_mangle)]
-pub extern "C" fn pb_begin(
+pub fn pb_begin(
     state: &mut State,
     rows: &mut [usize],
     store: &mut [u8],
@@ -297,8 +296,7 @@ pub extern "C" fn pb_begin(
 }
 
 // `feed`.
-#[unsafe(no_mangle)]
-pub extern "C" fn pb_feed(
+pub fn pb_feed(
     state: &mut State,
     rows: &mut [usize],
     store: &mut [u8],
@@ -342,8 +340,7 @@ fn ended_coded(
 }
 
 // `end`.
-#[unsafe(no_mangle)]
-pub extern "C" fn pb_end(
+pub fn pb_end(
     state: &mut State,
     rows: &mut [usize],
     store: &mut [u8],
@@ -361,8 +358,7 @@ pub extern "C" fn pb_end(
 }
 
 // `read`.
-#[unsafe(no_mangle)]
-pub extern "C" fn pb_read(
+pub fn pb_read(
     rows: &mut [usize],
     store: &mut [u8],
     strings: &mut [usize],
@@ -377,8 +373,7 @@ pub extern "C" fn pb_read(
 }
 
 // `write`.
-#[unsafe(no_mangle)]
-pub extern "C" fn pb_write(rows: &[usize], store: &[u8], out: &mut [u8]) -> Coded
+pub fn pb_write(rows: &[usize], store: &[u8], out: &mut [u8]) -> Coded
     ensures { CWriteContract result out.new rows.now store.now out.old }
 {
     let a = write(rows, store, out);
@@ -389,8 +384,7 @@ pub extern "C" fn pb_write(rows: &[usize], store: &[u8], out: &mut [u8]) -> Code
 }
 
 // Where the text of a row stands in the store.
-#[unsafe(no_mangle)]
-pub extern "C" fn pb_text(rows: &[usize], store: &[u8], row: usize) -> Place
+pub fn pb_text(rows: &[usize], store: &[u8], row: usize) -> Place
     ensures { CTextContract result rows.now store.now row }
 {
     let a = text::span(rows, store, row);
@@ -409,8 +403,7 @@ pub extern "C" fn pb_text(rows: &[usize], store: &[u8], row: usize) -> Place
 }
 
 // `millis`.
-#[unsafe(no_mangle)]
-pub extern "C" fn pb_millis(rows: &[usize], store: &[u8], row: usize) -> Instant
+pub fn pb_millis(rows: &[usize], store: &[u8], row: usize) -> Instant
     ensures { CMillisContract result rows.now store.now row }
 {
     let a = millis(rows, store, row);
