@@ -118,12 +118,10 @@ fn read_right(form: Form, line: &[u8], from: usize) -> bool {
 const FILLING: u8 = 0xa5;
 
 fn is_filling(s: &[u8]) -> bool {
-    let mut i = 0;
-    while i < s.len() {
-        if s[i] != FILLING {
+    for b in s {
+        if *b != FILLING {
             return false;
         }
-        i += 1;
     }
     true
 }
@@ -249,22 +247,18 @@ fn millis_right(line: &[u8], from: usize) -> bool {
 // The state after all bytes, one after the other.
 fn stepped(s: &[u8]) -> usize {
     let mut state = 0;
-    let mut i = 0;
-    while i < s.len() {
-        state = utf8::step(state, s[i]);
-        i += 1;
+    for b in s {
+        state = utf8::step(state, *b);
     }
     state
 }
 
 // Whether the text leads to `state` in two pieces, wherever it is cut.
 fn pieces_lead_to(s: &[u8], state: usize) -> bool {
-    let mut at = 0;
-    while at < s.len() {
+    for at in 0..s.len() {
         if utf8::run(utf8::run(0, &s[0..at]), &s[at..]) != state {
             return false;
         }
-        at += 1;
     }
     true
 }
