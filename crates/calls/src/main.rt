@@ -5,7 +5,7 @@
 // refused. Each answer is a line of standard output.
 
 ghost use Rattle.rows.specs.Memory.{at_entry, at_exit};
-ghost use Rattle.pinebuckle.specs.Contracts.{BeginContract, FeedContract, EndContract};
+ghost use Rattle.pinebuckle.specs.Calls.{BeginContract, FeedContract, EndContract};
 
 use pinebuckle::{
     Answer, Fed, Moment, ROW_WIDTH, SPAN_WIDTH, State, TRAIT_WIDTH, Written, columns, kinds,

@@ -10,8 +10,8 @@ ghost use Rattle.format.specs.Answers.{fed, begin_call, feed_call, end_call};
 ghost use Rattle.pieces.specs.States.{numbers};
 ghost use Rattle.feed.specs.Calls.{state_numbers};
 ghost use Rattle.pinebuckle.specs.Coding.{say_waiting, say_finished, say_refused, code, code_of, passed, coded_fed};
-ghost use Rattle.pinebuckle.specs.Contracts.{BeginContract, FeedContract, EndContract, ReadContract, WriteContract, TextContract, MillisContract};
-ghost use Rattle.pinebuckle.specs.Contracts.{CBeginContract, CFeedContract, CEndContract, CReadContract, CWriteContract, CTextContract, CMillisContract};
+ghost use Rattle.pinebuckle.specs.Calls.{BeginContract, FeedContract, EndContract, ReadContract, WriteContract, TextContract, MillisContract};
+ghost use Rattle.pinebuckle.specs.Calls.{CBeginContract, CFeedContract, CEndContract, CReadContract, CWriteContract, CTextContract, CMillisContract};
 
 pub use feed::{Fed, State, begun, ended, fed_on};
 pub use format::{Answer, Written, refusals};

@@ -3,7 +3,7 @@
 #![tactic(auto)]
 
 ghost use Rattle.rows.specs.Memory.{at_entry, at_exit};
-ghost use Rattle.pinebuckle.specs.Contracts.{CBeginContract, CFeedContract, CEndContract, CReadContract, CWriteContract, CTextContract, CMillisContract};
+ghost use Rattle.pinebuckle.specs.Calls.{CBeginContract, CFeedContract, CEndContract, CReadContract, CWriteContract, CTextContract, CMillisContract};
 
 use pinebuckle::{Coded, Instant, Place, State};
 

@@ -3,7 +3,7 @@
 use contract.Running.{tables, tables_of}
 use denote.Triple.Spec.{triple_of}
 use denote.Triple.Table.{entered, cited}
-use Rattle.pinebuckle.specs.Contracts.{BeginContract}
+use Rattle.pinebuckle.specs.Calls.{BeginContract}
 use Rattle.pinebuckle.specs.contracts.begin as callee
 use Rattle.pinebuckle.proofs.begin.Symbol as callee-def
 use Rattle.pinebuckle.proofs.begin.Symbol.{name as #pinebuckle·begin}

@@ -3,7 +3,7 @@
 use contract.Running.{tables, tables_of}
 use denote.Triple.Spec.{triple_of}
 use denote.Triple.Table.{entered, cited}
-use Rattle.pinebuckle.specs.Contracts.{EndContract}
+use Rattle.pinebuckle.specs.Calls.{EndContract}
 use Rattle.pinebuckle.specs.contracts.end as callee
 use Rattle.pinebuckle.proofs.end.Symbol as callee-def
 use Rattle.pinebuckle.proofs.end.Symbol.{name as #pinebuckle·end}

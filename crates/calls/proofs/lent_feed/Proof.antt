@@ -3,7 +3,7 @@
 use contract.Running.{tables, tables_of}
 use denote.Triple.Spec.{triple_of}
 use denote.Triple.Table.{entered, cited}
-use Rattle.pinebuckle.specs.Contracts.{FeedContract}
+use Rattle.pinebuckle.specs.Calls.{FeedContract}
 use Rattle.pinebuckle.specs.contracts.feed as callee
 use Rattle.pinebuckle.proofs.feed.Symbol as callee-def
 use Rattle.pinebuckle.proofs.feed.Symbol.{name as #pinebuckle·feed}
