@@ -17,6 +17,7 @@ const MOST_PIECES: usize = MESSAGE_LIMIT + 1;
 
 // ---- answers
 
+#[tactic(auto, unfolding(crate::specs::Taken::waiting))]
 fn waits(a: Answer) -> bool
     ensures { result ≡ waiting a }
 {
@@ -36,6 +37,7 @@ fn waits(a: Answer) -> bool
     }
 }
 
+#[tactic(auto, unfolding(crate::specs::Taken::taken_of))]
 fn taken_of(a: Answer) -> usize
     ensures { result ≡ taken_of a }
 {
@@ -56,6 +58,7 @@ fn taken_of(a: Answer) -> usize
 }
 
 // The answer with another count of bytes taken.
+#[tactic(auto, unfolding(crate::specs::Taken::with_taken))]
 fn with_taken(a: Answer, taken: usize) -> Answer
     ensures { result ≡ with_taken a taken }
 {

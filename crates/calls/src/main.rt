@@ -138,7 +138,7 @@ fn told<R: Print>(rt: &R, f: Fed) -> io::Result<State> {
     Ok(s)
 }
 
-// ---- the calls on a state that is lent: proved by hand, so that each function makes one
+// ---- the calls on a state that is lent: each function makes one, and promises what it does
 
 // Begins a reading: whatever the state was, it is made anew.
 fn lent_begin(

@@ -32,6 +32,7 @@ enum Value {
 }
 
 // The names of the kinds, in the order of their numbers, each with blanks behind it.
+#[tactic(auto, unfolding(crate::specs::Words::joined, crate::specs::Words::kind_names, crate::specs::Words::word, crate::specs::Words::ascii))]
 fn kind_names() -> [u8; 304]
     ensures { result ≡ joined kind_names }
 {
@@ -57,6 +58,7 @@ fn kind_names() -> [u8; 304]
 }
 
 // A kind, or 0 for any other number.
+#[tactic(auto, unfolding(crate::specs::Words::known_kind))]
 fn known_kind(kind: usize) -> usize
     ensures { result ≡ known_kind kind }
 {
@@ -66,6 +68,7 @@ fn known_kind(kind: usize) -> usize
     0
 }
 
+#[tactic(auto, unfolding(crate::specs::Words::value_of))]
 fn value_of(kind: usize) -> Value
     ensures { result ≡ value_of kind }
 {
@@ -179,14 +182,12 @@ fn print_millis<R: Print>(rt: &R, bits: usize) -> io::Result<()> {
 
 // A word without the blanks behind it.
 fn print_word<R: Print>(rt: &R, w: &[u8]) -> io::Result<()> {
-    let mut n: usize = 0;
-    while n < w.len() {
-        if w[n] == b' ' {
-            break;
+    for (n, b) in w.iter().enumerate() {
+        if *b == b' ' {
+            return print(rt, &w[..n]);
         }
-        n += 1;
     }
-    print(rt, &w[..n])
+    print(rt, w)
 }
 
 // A number, and what stands before it.
@@ -342,6 +343,7 @@ pub fn print_finished<R: Print>(
 }
 
 // Whether a refusal of a reading tells a value.
+#[tactic(auto, unfolding(crate::specs::Words::tells_value))]
 fn tells_value(number: usize) -> bool
     ensures { result ≡ tells_value number }
 {
