@@ -1,3 +1,5 @@
+#![tactic(auto)]
+
 // What each public call answers, from a program over pinebuckle alone. The array of two "a" is read in two pieces, with a state that is lent to begin, feed
 // and end, and whole; its texts are asked for, and it is written again; a date is asked for its milliseconds; loans of wrong lengths and an early end are
 // refused. Each answer is a line of standard output.
@@ -5,12 +7,12 @@
 #![tactic(auto)]
 
 ghost use Rattle.rows.specs.Memory.{at_entry, at_exit};
-ghost use Rattle.pinebuckle.specs.Contracts.{BeginContract, FeedContract, EndContract};
+ghost use Rattle.pinebuckle.specs.Calls.{BeginContract, FeedContract, EndContract};
 
-use libc::STDOUT_FILENO;
 use pinebuckle::{
     Answer, Fed, Moment, ROW_WIDTH, SPAN_WIDTH, State, TRAIT_WIDTH, Written, columns, kinds,
 };
+use std::io;
 
 // The numbers of the rows of the array and its two strings, of one row more, and one number less.
 const EXACT: usize = 3 * ROW_WIDTH;
@@ -40,39 +42,38 @@ const MINUS_ONE: usize = 0xbff0_0000_0000_0000;
 // ---- what is printed
 
 // Prints a text as it is.
-fn say(text: &[u8]) {
-    io::write_all(STDOUT_FILENO, text);
+fn say<R: Print>(rt: &R, text: &[u8]) -> io::Result<()> {
+    rt.write_all(text)
 }
 
 // Prints a number, and a blank before it.
-fn say_number(n: usize) {
-    say(b" ");
-    io::print_decimal(STDOUT_FILENO, n as u64);
+fn say_number<R: Print>(rt: &R, n: usize) -> io::Result<()> {
+    print!(rt; " {n}")
 }
 
 // Prints a refusal's number, the value that it tells and its place.
-fn say_refusal(no: usize, told: usize, place: usize) {
-    say_number(no);
-    say_number(told);
-    say_number(place);
+fn say_refusal<R: Print>(rt: &R, no: usize, told: usize, place: usize) -> io::Result<()> {
+    say_number(rt, no)?;
+    say_number(rt, told)?;
+    say_number(rt, place)
 }
 
 // Prints a reading's answer as a line.
-fn say_answer(a: Answer) {
+fn say_answer<R: Print>(rt: &R, a: Answer) -> io::Result<()> {
     match a {
         Answer::Waiting { taken: t } => {
-            say(b"waiting");
-            say_number(t);
+            say(rt, b"waiting")?;
+            say_number(rt, t)?;
         }
         Answer::Finished {
             rows: n,
             bytes: b,
             taken: t,
         } => {
-            say(b"finished");
-            say_number(n);
-            say_number(b);
-            say_number(t);
+            say(rt, b"finished")?;
+            say_number(rt, n)?;
+            say_number(rt, b)?;
+            say_number(rt, t)?;
         }
         Answer::Refused {
             no: n,
@@ -80,62 +81,66 @@ fn say_answer(a: Answer) {
             place: p,
             taken: t,
         } => {
-            say(b"refused");
-            say_refusal(n, x, p);
-            say_number(t);
+            say(rt, b"refused")?;
+            say_refusal(rt, n, x, p)?;
+            say_number(rt, t)?;
         }
     }
-    say(b"\n");
+    say(rt, b"\n")
 }
 
 // Prints a writing's answer as a line.
-fn say_written(w: Written) {
+fn say_written<R: Print>(rt: &R, w: Written) -> io::Result<()> {
     match w {
         Written::Bytes(n) => {
-            say(b"written");
-            say_number(n);
+            say(rt, b"written")?;
+            say_number(rt, n)?;
         }
         Written::Unwritten {
             no: n,
             told: x,
             place: p,
         } => {
-            say(b"unwritten");
-            say_refusal(n, x, p);
+            say(rt, b"unwritten")?;
+            say_refusal(rt, n, x, p)?;
         }
     }
-    say(b"\n");
+    say(rt, b"\n")
 }
 
 // Prints the text of a row as a line, or that it has none.
-fn say_text<'a>(rows: &'a [usize], store: &'a [u8], row: usize) {
-    say(pinebuckle::text(rows, store, row, b"none"));
-    say(b"\n");
+fn say_text<'a, R: Print>(
+    rt: &R,
+    rows: &'a [usize],
+    store: &'a [u8],
+    row: usize,
+) -> io::Result<()> {
+    say(rt, pinebuckle::text(rows, store, row, b"none"))?;
+    say(rt, b"\n")
 }
 
 // Prints as a line on which side of 1970 the date of a row is, or that it has none.
-fn say_millis(rows: &[usize], store: &[u8], row: usize) {
+fn say_millis<R: Print>(rt: &R, rows: &[usize], store: &[u8], row: usize) -> io::Result<()> {
     match pinebuckle::millis(rows, store, row) {
-        Moment::None => say(b"none\n"),
+        Moment::None => say(rt, b"none\n"),
         Moment::At(millis) => {
             if millis < 0 {
-                say(b"before 1970\n");
+                say(rt, b"before 1970\n")
             } else {
-                say(b"since 1970\n");
+                say(rt, b"since 1970\n")
             }
         }
     }
 }
 
 // Prints an answer, and gives the state that comes with it.
-fn told(f: Fed) -> State {
+fn told<R: Print>(rt: &R, f: Fed) -> io::Result<State> {
     let s = f.state;
-    let a = f.answer;
-    say_answer(a);
-    s
+    say_answer(rt, f.answer)?;
+    Ok(s)
 }
 
-// ---- the calls on a state that is lent: proved by hand, so that each function makes one
+// ---- the calls on a state that is lent: each function makes one, and promises what it does
 
 // Begins a reading: whatever the state was, it is made anew.
 fn lent_begin(
@@ -193,19 +198,24 @@ fn lent_end(
 // ---- one call each, and its answer printed
 
 // The state of a reading that has only begun, by value.
-fn fresh(
+fn fresh<R: Print>(
+    rt: &R,
     rows: &mut [usize],
     store: &mut [u8],
     strings: &mut [usize],
     objects: &mut [usize],
     traits: &mut [usize],
     names: &mut [usize],
-) -> State {
-    told(pinebuckle::begun(rows, store, strings, objects, traits, names))
+) -> io::Result<State> {
+    told(
+        rt,
+        pinebuckle::begun(rows, store, strings, objects, traits, names),
+    )
 }
 
 // Begins a reading, and gives its state.
-fn begin(
+fn begin<R: Print>(
+    rt: &R,
     s: State,
     rows: &mut [usize],
     store: &mut [u8],
@@ -213,12 +223,16 @@ fn begin(
     objects: &mut [usize],
     traits: &mut [usize],
     names: &mut [usize],
-) -> State {
-    told(lent_begin(s, rows, store, strings, objects, traits, names))
+) -> io::Result<State> {
+    told(
+        rt,
+        lent_begin(s, rows, store, strings, objects, traits, names),
+    )
 }
 
 // Feeds a piece, and gives the state after it.
-fn feed(
+fn feed<R: Print>(
+    rt: &R,
     s: State,
     rows: &mut [usize],
     store: &mut [u8],
@@ -227,12 +241,16 @@ fn feed(
     traits: &mut [usize],
     names: &mut [usize],
     piece: &[u8],
-) -> State {
-    told(lent_feed(s, rows, store, strings, objects, traits, names, piece))
+) -> io::Result<State> {
+    told(
+        rt,
+        lent_feed(s, rows, store, strings, objects, traits, names, piece),
+    )
 }
 
 // Declares the end, and gives the state after it.
-fn end(
+fn end<R: Print>(
+    rt: &R,
     s: State,
     rows: &mut [usize],
     store: &mut [u8],
@@ -240,19 +258,23 @@ fn end(
     objects: &mut [usize],
     traits: &mut [usize],
     names: &mut [usize],
-) -> State {
-    told(lent_end(s, rows, store, strings, objects, traits, names))
+) -> io::Result<State> {
+    told(
+        rt,
+        lent_end(s, rows, store, strings, objects, traits, names),
+    )
 }
 
 // Reads the array whole.
-fn read(
+fn read<R: Print>(
+    rt: &R,
     rows: &mut [usize],
     store: &mut [u8],
     strings: &mut [usize],
     objects: &mut [usize],
     traits: &mut [usize],
     names: &mut [usize],
-) {
+) -> io::Result<()> {
     let a = pinebuckle::read(
         rows,
         store,
@@ -262,30 +284,32 @@ fn read(
         names,
         b"\x09\x05\x01\x06\x03a\x06\x00",
     );
-    say_answer(a);
+    say_answer(rt, a)
 }
 
 // Writes the tree of the rows.
-fn write(rows: &[usize], store: &[u8]) {
+fn write<R: Print>(rt: &R, rows: &[usize], store: &[u8]) -> io::Result<()> {
     let mut out = [0u8; BYTES];
     let w = pinebuckle::write(rows, store, &mut out);
-    say_written(w);
+    say_written(rt, w)
 }
 
 // ---- the readings
 
 // The array in two pieces, the first up to inside of a string: it waits, finishes, and repeats its answer at the end.
-fn read_pieces(
+fn read_pieces<R: Print>(
+    rt: &R,
     rows: &mut [usize],
     store: &mut [u8],
     strings: &mut [usize],
     objects: &mut [usize],
     traits: &mut [usize],
     names: &mut [usize],
-) -> State {
-    let first = fresh(rows, store, strings, objects, traits, names);
-    let begun = begin(first, rows, store, strings, objects, traits, names);
+) -> io::Result<State> {
+    let first = fresh(rt, rows, store, strings, objects, traits, names)?;
+    let begun = begin(rt, first, rows, store, strings, objects, traits, names)?;
     let inside = feed(
+        rt,
         begun,
         rows,
         store,
@@ -294,8 +318,9 @@ fn read_pieces(
         traits,
         names,
         b"\x09\x05\x01\x06\x03",
-    );
+    )?;
     let finished = feed(
+        rt,
         inside,
         rows,
         store,
@@ -304,12 +329,13 @@ fn read_pieces(
         traits,
         names,
         b"a\x06\x00",
-    );
-    end(finished, rows, store, strings, objects, traits, names)
+    )?;
+    end(rt, finished, rows, store, strings, objects, traits, names)
 }
 
 // Fewer rows lent than at the beginning are refused with 12, the end of a state that has only begun with 2, and rows of no whole count with 1.
-fn refuse(
+fn refuse<R: Print>(
+    rt: &R,
     s: State,
     rows: &mut [usize],
     fewer: &mut [usize],
@@ -319,33 +345,33 @@ fn refuse(
     objects: &mut [usize],
     traits: &mut [usize],
     names: &mut [usize],
-) {
-    let begun = begin(s, rows, store, strings, objects, traits, names);
+) -> io::Result<()> {
+    let begun = begin(rt, s, rows, store, strings, objects, traits, names)?;
     feed(
-        begun, fewer, store, strings, objects, traits, names, b"\x09",
-    );
-    end(begun, rows, store, strings, objects, traits, names);
-    read(uneven, store, strings, objects, traits, names);
+        rt, begun, fewer, store, strings, objects, traits, names, b"\x09",
+    )?;
+    end(rt, begun, rows, store, strings, objects, traits, names)?;
+    read(rt, uneven, store, strings, objects, traits, names)
 }
 
 // The texts of the first string and of the array, which has none, and the array written again.
-fn show<'a>(rows: &'a [usize], store: &'a [u8]) {
-    say_text(rows, store, FIRST_STRING);
-    say_text(rows, store, ARRAY);
-    write(rows, store);
+fn show<'a, R: Print>(rt: &R, rows: &'a [usize], store: &'a [u8]) -> io::Result<()> {
+    say_text(rt, rows, store, FIRST_STRING)?;
+    say_text(rt, rows, store, ARRAY)?;
+    write(rt, rows, store)
 }
 
 // A row that is a date a millisecond before 1970, and the array, which is none.
-fn show_dates(rows: &[usize], store: &[u8]) {
+fn show_dates<R: Print>(rt: &R, rows: &[usize], store: &[u8]) -> io::Result<()> {
     let mut date = [0usize; ROW_WIDTH];
     date[columns::KIND] = kinds::DATE;
     date[columns::NUMBER] = MINUS_ONE;
-    say_millis(&date, store, 0);
-    say_millis(rows, store, ARRAY);
+    say_millis(rt, &date, store, 0)?;
+    say_millis(rt, rows, store, ARRAY)
 }
 
 // Lends rows with one to spare, exactly as many, and a number less, which writing refuses with 1 too.
-fn main() {
+fn main(rt: HostRuntime) -> io::Result<()> {
     let mut roomy = [0usize; ROOMY];
     let mut exact = [0usize; EXACT];
     let mut uneven = [0usize; UNEVEN];
@@ -355,14 +381,16 @@ fn main() {
     let mut traits = [0usize; TRAITS];
     let mut names = [0usize; SPANS];
     let s = read_pieces(
+        &rt,
         &mut roomy,
         &mut store,
         &mut strings,
         &mut objects,
         &mut traits,
         &mut names,
-    );
+    )?;
     refuse(
+        &rt,
         s,
         &mut roomy,
         &mut exact,
@@ -372,16 +400,17 @@ fn main() {
         &mut objects,
         &mut traits,
         &mut names,
-    );
+    )?;
     read(
+        &rt,
         &mut exact,
         &mut store,
         &mut strings,
         &mut objects,
         &mut traits,
         &mut names,
-    );
-    show(&exact, &store);
-    show_dates(&exact, &store);
-    write(&uneven, &store);
+    )?;
+    show(&rt, &exact, &store)?;
+    show_dates(&rt, &exact, &store)?;
+    write(&rt, &uneven, &store)
 }

@@ -1,10 +1,12 @@
+#![tactic(auto)]
+
 // Holds the crates wire and utf8 to vectors from outside, the lines of leaves.txt, and writes for each kind of line how many
 // answers are right and how many wrong.
 //
 // The list is made by tools/leaves/main.rs, a Rust program. It and what this program has to write are made anew by
 //
-//     rustc --edition 2021 -O -o target/make-leaves tools/leaves/main.rs
-//     target/make-leaves > crates/leaves/stdout
+//     rustc --edition 2021 -O -o /tmp/make-leaves tools/leaves/main.rs
+//     /tmp/make-leaves > crates/leaves/stdout
 //
 // Its answers are those of `decode_u29` and `encode_u29` of the crate amf 1.0.0, and of Rust: `from_be_bytes` and `to_be_bytes` of
 // `u32` and `u64`, shifts and casts of `i32` and `i64`, `from_bits`, `to_bits` and casts of `f64`, and `String::from_utf8`, whose error
@@ -13,6 +15,7 @@
 #![tactic(auto)]
 
 use lines::{Tally, Word};
+use std::io;
 use wire::{Bits, Moment, Part, Put, Read};
 
 // ---- the words of a line
@@ -35,7 +38,7 @@ fn last_is(line: &[u8], at: usize, n: usize) -> bool {
 
 // ---- numbers on the wire
 
-#[derive(Drop)]
+#[derive(Clone, Copy)]
 enum Form {
     U29,
     Be32,
@@ -117,12 +120,10 @@ fn read_right(form: Form, line: &[u8], from: usize) -> bool {
 const FILLING: u8 = 0xa5;
 
 fn is_filling(s: &[u8]) -> bool {
-    let mut i = 0;
-    while i < s.len() {
-        if s[i] != FILLING {
+    for b in s {
+        if *b != FILLING {
             return false;
         }
-        i += 1;
     }
     true
 }
@@ -248,22 +249,18 @@ fn millis_right(line: &[u8], from: usize) -> bool {
 // The state after all bytes, one after the other.
 fn stepped(s: &[u8]) -> usize {
     let mut state = 0;
-    let mut i = 0;
-    while i < s.len() {
-        state = utf8::step(state, s[i]);
-        i += 1;
+    for b in s {
+        state = utf8::step(state, *b);
     }
     state
 }
 
 // Whether the text leads to `state` in two pieces, wherever it is cut.
 fn pieces_lead_to(s: &[u8], state: usize) -> bool {
-    let mut at = 0;
-    while at < s.len() {
+    for at in 0..s.len() {
         if utf8::run(utf8::run(0, &s[0..at]), &s[at..]) != state {
             return false;
         }
-        at += 1;
     }
     true
 }
@@ -295,7 +292,7 @@ fn text_right(line: &[u8], from: usize) -> bool {
 
 // ---- the list
 
-#[derive(Drop)]
+#[derive(Clone, Copy)]
 enum Kind {
     Read(Form),
     Put(Form),
@@ -342,26 +339,26 @@ fn count(text: &[u8], kind: Kind, name: &[u8]) -> Tally {
     t
 }
 
-fn report(text: &[u8], kind: Kind, name: &[u8]) {
-    lines::report(name, count(text, kind, name));
+fn report<R: Print>(rt: &R, text: &[u8], kind: Kind, name: &[u8]) -> io::Result<()> {
+    lines::report(rt, name, count(text, kind, name))
 }
 
-fn report_all(text: &[u8]) {
-    report(text, Kind::Read(Form::U29), b"read_u29 ");
-    report(text, Kind::Put(Form::U29), b"put_u29 ");
-    report(text, Kind::Integer, b"integer ");
-    report(text, Kind::IntegerBits, b"integer_bits ");
-    report(text, Kind::Column, b"column ");
-    report(text, Kind::Read(Form::Be32), b"read_be32 ");
-    report(text, Kind::Put(Form::Be32), b"put_be32 ");
-    report(text, Kind::Read(Form::Be64), b"read_be64 ");
-    report(text, Kind::Put(Form::Be64), b"put_be64 ");
-    report(text, Kind::Millis, b"millis ");
-    report(text, Kind::Text, b"text ");
+fn report_all<R: Print>(rt: &R, text: &[u8]) -> io::Result<()> {
+    report(rt, text, Kind::Read(Form::U29), b"read_u29 ")?;
+    report(rt, text, Kind::Put(Form::U29), b"put_u29 ")?;
+    report(rt, text, Kind::Integer, b"integer ")?;
+    report(rt, text, Kind::IntegerBits, b"integer_bits ")?;
+    report(rt, text, Kind::Column, b"column ")?;
+    report(rt, text, Kind::Read(Form::Be32), b"read_be32 ")?;
+    report(rt, text, Kind::Put(Form::Be32), b"put_be32 ")?;
+    report(rt, text, Kind::Read(Form::Be64), b"read_be64 ")?;
+    report(rt, text, Kind::Put(Form::Be64), b"put_be64 ")?;
+    report(rt, text, Kind::Millis, b"millis ")?;
+    report(rt, text, Kind::Text, b"text ")
 }
 
-fn main() {
+fn main(rt: HostRuntime) -> io::Result<()> {
     let mut text = lines::room();
-    let n = lines::load(b"leaves.txt", &mut text);
-    report_all(&text[0..n]);
+    let n = lines::load(&rt, b"leaves.txt", &mut text);
+    report_all(&rt, &text[0..n])
 }

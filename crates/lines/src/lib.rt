@@ -1,3 +1,5 @@
+#![tactic(auto)]
+
 // Lists of vectors: their lines, the words of a line, and the tally of right and wrong ones. What a function answers is its
 // definition in specs/Lines.antt.
 
@@ -18,7 +20,10 @@ ghost use Rattle.lines.specs.Lines.{
   tallied_of,
 };
 
-use libc::STDOUT_FILENO;
+use std::fmt::Display;
+use std::io::Read;
+use std::rt::Files;
+use std::{fs, io};
 
 // ---- the words of a line
 
@@ -37,6 +42,7 @@ fn wide(x: u8) -> usize
 }
 
 // A hexadecimal digit, or 16 for any other byte.
+#[tactic(auto, unfolding(crate::specs::Lines::digit_of))]
 fn digit(b: u8) -> u8
     ensures { result ≡ digit_of b }
 {
@@ -48,6 +54,7 @@ fn digit(b: u8) -> u8
 }
 
 // The place behind the blank or line end at `at`.
+#[tactic(auto, unfolding(crate::specs::Lines::behind_of))]
 pub fn behind(line: &[u8], at: usize) -> usize
     ensures { result ≡ behind_of line.now at }
 {
@@ -133,19 +140,47 @@ pub fn room() -> [u8; 500000]
     [0; 500000]
 }
 
-// Reads the file at `path` into `text`, as far as there is room. The answer is how many bytes it has; 0, with a message, where it can't be read. What
-// they are, a contract cannot say.
-pub fn load(path: &[u8], text: &mut [u8]) -> usize
+// Reads from `file` until `text` is full, the file ends or a read fails. The answer is how many bytes were read.
+fn read_full<R: Read>(file: &mut R, text: &mut [u8]) -> usize
     ensures { result ≤ length text.old }
 {
-    let file = os::open_read(path);
-    if file < 0 {
-        os::fail(path);
-        return 0;
+    let mut done = 0;
+    while done < text.len() {
+        let Ok(n) = file.read(&mut text[done..]) else {
+            break;
+        };
+        if n == 0 {
+            break;
+        }
+        done += n;
     }
-    let n = io::read_full(file, text);
-    libc::close(file);
-    n
+    done
+}
+
+// Says on standard error why `path` can't be read.
+fn complain<R: Eprint, E: Display + Drop>(rt: &R, path: &[u8], why: E) {
+    let _ = rt.eprintln(format_args!("{}: {why}", path.escape_ascii()));
+}
+
+// Reads the file at `path` into `text`, as far as there is room. The answer is how many bytes it has; 0, with a message, where it can't be read. What
+// they are, a contract cannot say.
+pub fn load<R: Files + Eprint>(rt: &R, path: &[u8], text: &mut [u8]) -> usize
+    ensures { result ≤ length text.old }
+{
+    let name = match str::from_utf8(path) {
+        Ok(name) => name,
+        Err(why) => {
+            complain(rt, path, why);
+            return 0;
+        }
+    };
+    match fs::open(rt, name) {
+        Ok(mut file) => read_full(&mut file, text),
+        Err(why) => {
+            complain(rt, path, why);
+            0
+        }
+    }
 }
 
 // The place behind the line that goes on at `at`.
@@ -204,6 +239,7 @@ pub fn passed(mut t: Tally) -> Tally
 }
 
 // A tally after a line of its kind.
+#[tactic(auto, unfolding(crate::specs::Lines::tallied_of))]
 pub fn tallied(mut t: Tally, right: bool) -> Tally
     ensures { result ≡ tallied_of t right }
 {
@@ -221,15 +257,11 @@ pub fn tallied(mut t: Tally, right: bool) -> Tally
 
 // Prints a line: `name`, how many were right and how many wrong, and if any was wrong the number of the first such line. It only
 // prints: a contract cannot speak of output.
-pub fn report(name: &[u8], t: Tally) {
-    io::write_all(STDOUT_FILENO, name);
-    io::print_decimal(STDOUT_FILENO, t.right);
-    io::write_all(STDOUT_FILENO, b" right, ");
-    io::print_decimal(STDOUT_FILENO, t.wrong);
-    io::write_all(STDOUT_FILENO, b" wrong");
+pub fn report<R: Print>(rt: &R, name: &[u8], t: Tally) -> io::Result<()> {
+    rt.write_all(name)?;
+    print!(rt; "{} right, {} wrong", t.right, t.wrong)?;
     if t.wrong != 0 {
-        io::write_all(STDOUT_FILENO, b", the first in line ");
-        io::print_decimal(STDOUT_FILENO, t.first);
+        print!(rt; ", the first in line {}", t.first)?;
     }
-    io::write_all(STDOUT_FILENO, b"\n");
+    println!(rt;)
 }

@@ -6,12 +6,10 @@ use Prim.Native.Nat.{ℕ, suc, ◌+◌, ◌*◌, ◌-◌, ◌/◌, ◌%◌, ◌^
 use native.Mathlib.Omega.{arith}
 use lib.ListN.{length, get_or, set, drop, drop_of_length-le}
 use lib.Seq.{sets, drop-cons}
-use Rattle.io.specs.Digits.{hex_digit_ascii}
 use Rattle.wire.specs.Sign.{of_column}
 use Rattle.wire.proofs.Sign.{signed_low, signed_high}
-use Rattle.listing.specs.declared.Decimal.{Decimal}
 use Rattle.listing.specs.Words.{decimal_of}
-use Rattle.listing.specs.Hex.{hex_of}
+use Rattle.listing.specs.Hex.{hex_digit_ascii, hex_of}
 
 module _ (whole out s : List ℕ) (i : ℕ) where
   pub spelled_more : {x y : ℕ} → i < length s → x ≡ hex_digit_ascii (get_or s i 0 / 16) → y ≡ hex_digit_ascii (get_or s i 0 % 16)

@@ -1,6 +1,9 @@
 -- Bytes in hex, two digits each.
-use Rattle.std.specs.Prelude.{List, [], ◌∷◌, ℕ, ◌/◌, ◌%◌}
-use Rattle.io.specs.Digits.{hex_digit_ascii}
+use Rattle.std.specs.Prelude.{List, [], ◌∷◌, ℕ, ◌+◌, ◌/◌, ◌%◌, cond, nat_lt}
+
+-- the ASCII code of a digit below 16: `0` to `9`, then `a` to `f`
+abbrev pub hex_digit_ascii : ℕ → ℕ
+hex_digit_ascii d = cond (nat_lt d 10) (48 + d) (87 + d)
 
 unfoldable pub hex_of : List ℕ → List ℕ
 hex_of [] = []

@@ -1,3 +1,5 @@
+#![tactic(auto)]
+
 // The listing of a reading, on standard output: a line for its answer, and a line for each row. Any numbers may stand in the rows; of a span, what lies in
 // the store is shown.
 
@@ -5,14 +7,13 @@
 
 ghost use Rattle.std.specs.Prelude.{◌≡◌, ◌+◌, ◌*◌, ◌≤◌, ◌<◌, min, length};
 ghost use Rattle.std.proofs.lemmas.List.Edits.{sets};
-ghost use Rattle.io.specs.Digits.{hex_digit_ascii};
 ghost use Rattle.wire.specs.Sign.{of_column};
 ghost use Rattle.listing.specs.Words.{joined, kind_names, known_kind, value_of, decimal_of, tells_value};
-ghost use Rattle.listing.specs.Hex.{hex_of};
+ghost use Rattle.listing.specs.Hex.{hex_digit_ascii, hex_of};
 
 use format::refusals;
-use libc::STDOUT_FILENO;
 use rows::kinds;
+use std::io;
 use wire::Moment;
 
 // Bytes of a name of a kind, with the blanks behind it.
@@ -33,6 +34,7 @@ enum Value {
 }
 
 // The names of the kinds, in the order of their numbers, each with blanks behind it.
+#[tactic(auto, unfolding(crate::specs::Words::joined, crate::specs::Words::kind_names, crate::specs::Words::word, crate::specs::Words::ascii))]
 fn kind_names() -> [u8; 304]
     ensures { result ≡ joined kind_names }
 {
@@ -58,6 +60,7 @@ fn kind_names() -> [u8; 304]
 }
 
 // A kind, or 0 for any other number.
+#[tactic(auto, unfolding(crate::specs::Words::known_kind))]
 fn known_kind(kind: usize) -> usize
     ensures { result ≡ known_kind kind }
 {
@@ -67,6 +70,7 @@ fn known_kind(kind: usize) -> usize
     0
 }
 
+#[tactic(auto, unfolding(crate::specs::Words::value_of))]
 fn value_of(kind: usize) -> Value
     ensures { result ≡ value_of kind }
 {
@@ -149,61 +153,59 @@ fn spell(bytes: &[u8], out: &mut [u8])
 
 // ---- printing
 
-fn print(text: &[u8]) {
-    io::write_all(STDOUT_FILENO, text);
+fn print<R: Print>(rt: &R, text: &[u8]) -> io::Result<()> {
+    rt.write_all(text)
 }
 
-fn print_number(n: usize) {
-    io::print_decimal(STDOUT_FILENO, n as u64);
+fn print_number<R: Print>(rt: &R, n: usize) -> io::Result<()> {
+    print!(rt; "{n}")
 }
 
 // The 64 bits of a number, in 16 digits.
-fn print_bits(n: usize) {
-    io::print_hex(STDOUT_FILENO, n as u64, 16);
+fn print_bits<R: Print>(rt: &R, n: usize) -> io::Result<()> {
+    print!(rt; "{n:016x}")
 }
 
-fn print_signed(x: usize) {
+fn print_signed<R: Print>(rt: &R, x: usize) -> io::Result<()> {
     let d = decimal_of(x);
     if d.minus {
-        print(b"-");
+        print(rt, b"-")?;
     }
-    print_number(d.size);
+    print_number(rt, d.size)
 }
 
 // The milliseconds of a date's bits, `-` where there are none.
-fn print_millis(bits: usize) {
+fn print_millis<R: Print>(rt: &R, bits: usize) -> io::Result<()> {
     match wire::moment_of(bits) {
-        Moment::None => print(b"-"),
-        Moment::At(millis) => print_signed(wire::column(millis)),
+        Moment::None => print(rt, b"-"),
+        Moment::At(millis) => print_signed(rt, wire::column(millis)),
     }
 }
 
 // A word without the blanks behind it.
-fn print_word(w: &[u8]) {
-    let mut n: usize = 0;
-    while n < w.len() {
-        if w[n] == b' ' {
-            break;
+fn print_word<R: Print>(rt: &R, w: &[u8]) -> io::Result<()> {
+    for (n, b) in w.iter().enumerate() {
+        if *b == b' ' {
+            return print(rt, &w[..n]);
         }
-        n += 1;
     }
-    print(&w[..n]);
+    print(rt, w)
 }
 
 // A number, and what stands before it.
-fn print_named(name: &[u8], n: usize) {
-    print(name);
-    print_number(n);
+fn print_named<R: Print>(rt: &R, name: &[u8], n: usize) -> io::Result<()> {
+    print(rt, name)?;
+    print_number(rt, n)
 }
 
 // At most 32 bytes, in hex.
-fn print_few(bytes: &[u8])
+fn print_few<R: Print>(rt: &R, bytes: &[u8]) -> io::Result<()>
     requires { length bytes.now ≤ 32 }
 {
     let mut digits = [0u8; 64];
     spell(bytes, &mut digits);
     let n = 2 * bytes.len();
-    print(&digits[..n]);
+    print(rt, &digits[..n])
 }
 
 // Where the next few bytes end, of those from `at` on.
@@ -218,117 +220,132 @@ fn few_end(at: usize, len: usize) -> usize
 }
 
 // Bytes in hex, `-` where there are none.
-fn print_bytes(bytes: &[u8]) {
+fn print_bytes<R: Print>(rt: &R, bytes: &[u8]) -> io::Result<()> {
     if bytes.len() == 0 {
-        print(b"-");
+        print(rt, b"-")?;
     }
     let mut at = 0;
     while at < bytes.len() {
         let end = few_end(at, bytes.len());
-        print_few(&bytes[at..end]);
+        print_few(rt, &bytes[at..end])?;
         at = end;
     }
+    Ok(())
 }
 
 // The part of the store that a span is, and what stands before it.
-fn print_part(name: &[u8], store: &[u8], begin: usize, size: usize) {
-    print(name);
-    print_bytes(text::clip(store, begin, size));
+fn print_part<R: Print>(
+    rt: &R,
+    name: &[u8],
+    store: &[u8],
+    begin: usize,
+    size: usize,
+) -> io::Result<()> {
+    print(rt, name)?;
+    print_bytes(rt, text::clip(store, begin, size))
 }
 
 // ---- rows
 
-fn print_kind(kind: usize) {
+fn print_kind<R: Print>(rt: &R, kind: usize) -> io::Result<()> {
     let names = kind_names();
     let at = NAME_SIZE * known_kind(kind);
-    print_word(text::clip(&names, at, NAME_SIZE));
+    print_word(rt, text::clip(&names, at, NAME_SIZE))
 }
 
 // [fixed F | weak F]
-fn print_flag(kind: usize, flag: usize) {
+fn print_flag<R: Print>(rt: &R, kind: usize, flag: usize) -> io::Result<()> {
     if kind < kinds::INT_VECTOR {
-        return;
+        return Ok(());
     }
     if kind <= kinds::OBJECT_VECTOR {
-        print_named(b" fixed ", flag);
-        return;
+        return print_named(rt, b" fixed ", flag);
     }
     if kind == kinds::DICTIONARY {
-        print_named(b" weak ", flag);
+        return print_named(rt, b" weak ", flag);
     }
+    Ok(())
 }
 
 // [assoc A dense D | sealed S dynamic D | entries N]
-fn print_counts(kind: usize, count: usize, count2: usize) {
+fn print_counts<R: Print>(rt: &R, kind: usize, count: usize, count2: usize) -> io::Result<()> {
     if kind == kinds::ARRAY {
-        print_named(b" assoc ", count);
-        print_named(b" dense ", count2);
+        print_named(rt, b" assoc ", count)?;
+        print_named(rt, b" dense ", count2)?;
     }
     if kind == kinds::OBJECT {
-        print_named(b" sealed ", count);
-        print_named(b" dynamic ", count2);
+        print_named(rt, b" sealed ", count)?;
+        print_named(rt, b" dynamic ", count2)?;
     }
     if kind < kinds::INT_VECTOR {
-        return;
+        return Ok(());
     }
     if kind <= kinds::DICTIONARY {
-        print_named(b" entries ", count);
+        return print_named(rt, b" entries ", count);
     }
+    Ok(())
 }
 
 // [BODY | NUMBER]
-fn print_value(kind: usize, number: usize, body: &[u8]) {
+fn print_value<R: Print>(rt: &R, kind: usize, number: usize, body: &[u8]) -> io::Result<()> {
     let value = value_of(kind);
     if let Value::Nothing = value {
-        return;
+        return Ok(());
     }
-    print(b" ");
+    print(rt, b" ")?;
     match value {
-        Value::Nothing => {}
-        Value::Body => print_bytes(body),
-        Value::Plain => print_number(number),
-        Value::Signed => print_signed(number),
-        Value::Bits => print_bits(number),
-        Value::Millis => print_millis(number),
+        Value::Nothing => Ok(()),
+        Value::Body => print_bytes(rt, body),
+        Value::Plain => print_number(rt, number),
+        Value::Signed => print_signed(rt, number),
+        Value::Bits => print_bits(rt, number),
+        Value::Millis => print_millis(rt, number),
     }
 }
 
 // ROW KIND [key HEX] [fixed F | weak F] [class HEX] [assoc A dense D | sealed S dynamic D | entries N] [BODY | NUMBER] end E
-fn print_row(rows: &[usize], store: &[u8], row: usize) {
+fn print_row<R: Print>(rt: &R, rows: &[usize], store: &[u8], row: usize) -> io::Result<()> {
     let r = rows::get_row(rows, row);
     let body = text::clip(store, r.body.begin, r.body.size);
-    print_number(row);
-    print(b" ");
-    print_kind(r.kind);
+    print_number(rt, row)?;
+    print(rt, b" ")?;
+    print_kind(rt, r.kind)?;
     if r.key.mark != 0 {
-        print_part(b" key ", store, r.key.begin, r.key.size);
+        print_part(rt, b" key ", store, r.key.begin, r.key.size)?;
     }
-    print_flag(r.kind, r.flag);
+    print_flag(rt, r.kind, r.flag)?;
     if r.class != 0 {
-        print_part(b" class ", store, r.body.begin, r.body.size);
+        print_part(rt, b" class ", store, r.body.begin, r.body.size)?;
     }
-    print_counts(r.kind, r.count, r.count2);
-    print_value(r.kind, r.number, body);
-    print_named(b" end ", r.end);
-    print(b"\n");
+    print_counts(rt, r.kind, r.count, r.count2)?;
+    print_value(rt, r.kind, r.number, body)?;
+    print_named(rt, b" end ", r.end)?;
+    print(rt, b"\n")
 }
 
 // ---- the listing
 
 // A finished reading: what is used and taken, then the first `n` rows.
-pub fn print_finished(rows: &[usize], store: &[u8], n: usize, bytes: usize, taken: usize) {
-    print_named(b"rows ", n);
-    print_named(b" bytes ", bytes);
-    print_named(b" taken ", taken);
-    print(b"\n");
-    let mut row = 0;
-    while row < n {
-        print_row(rows, store, row);
-        row += 1;
+pub fn print_finished<R: Print>(
+    rt: &R,
+    rows: &[usize],
+    store: &[u8],
+    n: usize,
+    bytes: usize,
+    taken: usize,
+) -> io::Result<()> {
+    print_named(rt, b"rows ", n)?;
+    print_named(rt, b" bytes ", bytes)?;
+    print_named(rt, b" taken ", taken)?;
+    print(rt, b"\n")?;
+    for row in 0..n {
+        print_row(rt, rows, store, row)?;
     }
+    Ok(())
 }
 
 // Whether a refusal of a reading tells a value.
+#[tactic(auto, unfolding(crate::specs::Words::tells_value))]
 fn tells_value(number: usize) -> bool
     ensures { result ≡ tells_value number }
 {
@@ -351,21 +368,21 @@ fn tells_value(number: usize) -> bool
 }
 
 // [told X]
-fn print_told(no: usize, told: usize) {
+fn print_told<R: Print>(rt: &R, no: usize, told: usize) -> io::Result<()> {
     if no == refusals::BAD_DATE {
-        print(b" told ");
-        print_bits(told);
-        return;
+        print(rt, b" told ")?;
+        return print_bits(rt, told);
     }
     if tells_value(no) {
-        print_named(b" told ", told);
+        return print_named(rt, b" told ", told);
     }
+    Ok(())
 }
 
 // A refused reading: refused NO [told X] place P
-pub fn print_refused(no: usize, told: usize, place: usize) {
-    print_named(b"refused ", no);
-    print_told(no, told);
-    print_named(b" place ", place);
-    print(b"\n");
+pub fn print_refused<R: Print>(rt: &R, no: usize, told: usize, place: usize) -> io::Result<()> {
+    print_named(rt, b"refused ", no)?;
+    print_told(rt, no, told)?;
+    print_named(rt, b" place ", place)?;
+    print(rt, b"\n")
 }

@@ -14,8 +14,8 @@ use Rattle.pinebuckle.specs.declared.Coded.{Coded}
 use Rattle.pinebuckle.specs.declared.Place.{Place}
 use Rattle.pinebuckle.specs.declared.Instant.{Instant}
 use Rattle.pinebuckle.specs.Coding.{Passed, passed, coded_fed, left, put}
-use Rattle.pinebuckle.specs.Contracts.{BeginContract, FeedContract, EndContract, ReadContract, WriteContract, TextContract, MillisContract}
-use Rattle.pinebuckle.specs.Contracts.{CBeginContract, CFeedContract, CEndContract, CReadContract, CWriteContract, CTextContract, CMillisContract}
+use Rattle.pinebuckle.specs.Calls.{BeginContract, FeedContract, EndContract, ReadContract, WriteContract, TextContract, MillisContract}
+use Rattle.pinebuckle.specs.Calls.{CBeginContract, CFeedContract, CEndContract, CReadContract, CWriteContract, CTextContract, CMillisContract}
 
 -- numbers as they lie in memory
 abbrev placed : Numbers → State

@@ -1,5 +1,5 @@
-// The public calls, and the same as C has them. For C numbers are 64 bits, a slice is a pointer and a count of elements; include/pinebuckle.h declares
-// them.
+// The public calls, and the same as C has them, which the static library pinebuckle_c exports. For C numbers are 64 bits, a slice is a pointer and a count of
+// elements; include/pinebuckle.h declares them.
 
 #![tactic(auto)]
 
@@ -12,8 +12,8 @@ ghost use Rattle.format.specs.Answers.{fed, begin_call, feed_call, end_call};
 ghost use Rattle.pieces.specs.States.{numbers};
 ghost use Rattle.feed.specs.Calls.{state_numbers};
 ghost use Rattle.pinebuckle.specs.Coding.{say_waiting, say_finished, say_refused, code, code_of, passed, coded_fed};
-ghost use Rattle.pinebuckle.specs.Contracts.{BeginContract, FeedContract, EndContract, ReadContract, WriteContract, TextContract, MillisContract};
-ghost use Rattle.pinebuckle.specs.Contracts.{CBeginContract, CFeedContract, CEndContract, CReadContract, CWriteContract, CTextContract, CMillisContract};
+ghost use Rattle.pinebuckle.specs.Calls.{BeginContract, FeedContract, EndContract, ReadContract, WriteContract, TextContract, MillisContract};
+ghost use Rattle.pinebuckle.specs.Calls.{CBeginContract, CFeedContract, CEndContract, CReadContract, CWriteContract, CTextContract, CMillisContract};
 
 pub use feed::{Fed, State, begun, ended, fed_on};
 pub use format::{Answer, Written, refusals};
@@ -281,8 +281,7 @@ fn begun_coded(
 }
 
 // `begin`.
-#[unsafe(no_mangle)]
-pub extern "C" fn pb_begin(
+pub fn pb_begin(
     state: &mut State,
     rows: &mut [usize],
     store: &mut [u8],
@@ -299,8 +298,7 @@ pub extern "C" fn pb_begin(
 }
 
 // `feed`.
-#[unsafe(no_mangle)]
-pub extern "C" fn pb_feed(
+pub fn pb_feed(
     state: &mut State,
     rows: &mut [usize],
     store: &mut [u8],
@@ -344,8 +342,7 @@ fn ended_coded(
 }
 
 // `end`.
-#[unsafe(no_mangle)]
-pub extern "C" fn pb_end(
+pub fn pb_end(
     state: &mut State,
     rows: &mut [usize],
     store: &mut [u8],
@@ -363,8 +360,7 @@ pub extern "C" fn pb_end(
 }
 
 // `read`.
-#[unsafe(no_mangle)]
-pub extern "C" fn pb_read(
+pub fn pb_read(
     rows: &mut [usize],
     store: &mut [u8],
     strings: &mut [usize],
@@ -379,8 +375,7 @@ pub extern "C" fn pb_read(
 }
 
 // `write`.
-#[unsafe(no_mangle)]
-pub extern "C" fn pb_write(rows: &[usize], store: &[u8], out: &mut [u8]) -> Coded
+pub fn pb_write(rows: &[usize], store: &[u8], out: &mut [u8]) -> Coded
     ensures { CWriteContract result out.new rows.now store.now out.old }
 {
     let a = write(rows, store, out);
@@ -391,8 +386,7 @@ pub extern "C" fn pb_write(rows: &[usize], store: &[u8], out: &mut [u8]) -> Code
 }
 
 // Where the text of a row stands in the store.
-#[unsafe(no_mangle)]
-pub extern "C" fn pb_text(rows: &[usize], store: &[u8], row: usize) -> Place
+pub fn pb_text(rows: &[usize], store: &[u8], row: usize) -> Place
     ensures { CTextContract result rows.now store.now row }
 {
     let a = text::span(rows, store, row);
@@ -411,8 +405,7 @@ pub extern "C" fn pb_text(rows: &[usize], store: &[u8], row: usize) -> Place
 }
 
 // `millis`.
-#[unsafe(no_mangle)]
-pub extern "C" fn pb_millis(rows: &[usize], store: &[u8], row: usize) -> Instant
+pub fn pb_millis(rows: &[usize], store: &[u8], row: usize) -> Instant
     ensures { CMillisContract result rows.now store.now row }
 {
     let a = millis(rows, store, row);
