@@ -19,14 +19,14 @@ use resume::Next;
 
 // A state that is lent to the feed: a head, and the frames of the open values. Any numbers are one.
 #[repr(C)]
-#[derive(Drop)]
+#[derive(Clone, Copy)]
 pub struct State {
     pub head: Head,
     pub frames: Frames,
 }
 
 // The state after a call, and the answer.
-#[derive(Drop)]
+#[derive(Clone, Copy)]
 pub struct Fed {
     pub state: State,
     pub answer: Answer,
@@ -113,7 +113,7 @@ pub fn begun(
 }
 
 // The head after a piece, and the answer.
-#[derive(Drop)]
+#[derive(Clone, Copy)]
 pub struct Headed {
     pub head: Head,
     pub answer: Answer,

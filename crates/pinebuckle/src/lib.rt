@@ -131,7 +131,7 @@ const SAY_REFUSED: usize = 2;
 
 // An answer: waiting, finished or refused, with its numbers; those without meaning are 0.
 #[repr(C)]
-#[derive(Drop)]
+#[derive(Clone, Copy)]
 pub struct Coded {
     pub kind: usize,
     pub no: usize,
@@ -144,7 +144,7 @@ pub struct Coded {
 
 // A text's span, if one was found.
 #[repr(C)]
-#[derive(Drop)]
+#[derive(Clone, Copy)]
 pub struct Place {
     pub found: usize,
     pub begin: usize,
@@ -153,7 +153,7 @@ pub struct Place {
 
 // A date's milliseconds, if one was found.
 #[repr(C)]
-#[derive(Drop)]
+#[derive(Clone, Copy)]
 pub struct Instant {
     pub found: usize,
     pub millis: i64,
@@ -217,7 +217,7 @@ fn code_of(a: Answer) -> Coded
 }
 
 // The state after a call, and the answer's code.
-#[derive(Drop)]
+#[derive(Clone, Copy)]
 pub struct StateCoded {
     pub state: State,
     pub coded: Coded,
@@ -235,7 +235,7 @@ fn state_code(out: Fed) -> StateCoded
 }
 
 // The head after a piece, and the answer's code.
-#[derive(Drop)]
+#[derive(Clone, Copy)]
 pub struct HeadCoded {
     pub head: Head,
     pub coded: Coded,

@@ -1,0 +1,8 @@
+use mathlib.Core.Path.{ap, ◌∙◌}
+use Rattle.pinebuckle.specs.Coding.{coded_fed}
+use borrow.Author.Rules.{rules}
+use Rattle.pinebuckle.proofs.ended_coded.Goals as goal
+
+pub returns : goal.returns
+returns c = c.state_code.ensures _ ∙ ap coded_fed
+    c.ended.ensures

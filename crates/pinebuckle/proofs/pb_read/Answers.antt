@@ -1,0 +1,7 @@
+use Rattle.pinebuckle.proofs.Codes.{read-coded}
+use borrow.Author.Rules.{rules}
+use Rattle.pinebuckle.proofs.pb_read.Goals as goal
+
+pub returns : goal.returns
+returns c = read-coded _ _ _ _ c.code_of.ensures
+    c.read.ensures
