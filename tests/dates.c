@@ -2,7 +2,7 @@
  * date is read as its bits, whatever its sign, and written as them; asked for its milliseconds it is cut towards zero and held at the ends of int64_t. What isn't
  * finite is 7 when read, 14 when written, and has no milliseconds. Run:
  *
- *     rt staticlib pinebuckle
+ *     tools/library
  *     gcc -std=c99 -Wall -Wextra -Werror -O1 -Iinclude -o target/dates tests/dates.c target/staticlib/libpinebuckle.a && target/dates
  *
  * It tries each exponent with both signs: fractions that are zero, have the last bit or all bits, and drawn ones; where the whole part is neither 0 nor held also

@@ -1,7 +1,7 @@
 /* What the lists of tests/lists can't say of document 01's examples: a message is read, texts are found in what was read, and it is written again, also with
  * a byte too little of output. And what document 01 says of texts: which rows have one, and for which a caller has a default of its own. Run:
  *
- *     rt staticlib pinebuckle
+ *     tools/library
  *     gcc -std=c99 -Wall -Wextra -Werror -O1 -Iinclude -o target/examples tests/examples.c target/staticlib/libpinebuckle.a && target/examples
  *
  * Every field of every answer, every number and byte lent and the guard behind them is compared. Prints what differs, its numbers in hexadecimal, and last

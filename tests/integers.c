@@ -1,7 +1,7 @@
 /* Reads and writes integers from -2^28 to 2^28 - 1, held to document 01's words: n of 2^28 or more reads as n - 2^29. What lies outside isn't written: 14, and
  * outside 32 signed bits 13. Run:
  *
- *     rt staticlib pinebuckle
+ *     tools/library
  *     gcc -std=c99 -Wall -Wextra -Werror -O1 -Iinclude -o target/integers tests/integers.c target/staticlib/libpinebuckle.a && target/integers
  *
  * It tries the ends of each stretch of 2^17 remainders and those between that are so many apart as the first word says (4,099). `target/integers 1` tries all

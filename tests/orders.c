@@ -1,6 +1,6 @@
 /* No order hides in another. An order is the bytes that a writing gives; a list is orders joined, with nothing between them. Run:
  *
- *     rt staticlib pinebuckle
+ *     tools/library
  *     gcc -std=c99 -Wall -Wextra -Werror -O1 -Iinclude -o target/orders tests/orders.c target/staticlib/libpinebuckle.a && target/orders
  *
  * It has some trees with their bytes by hand, and makes others of all kinds, each twice: the second time one choice is another, where there is one. A tree is

@@ -2,7 +2,7 @@
  * lent with other lengths than at the beginning. Also 12 for a state that was never begun, for one that says 7 of a finite date, and for one that waits but
  * holds other numbers. Run:
  *
- *     rt staticlib pinebuckle
+ *     tools/library
  *     gcc -std=c99 -Wall -Wextra -Werror -O1 -Iinclude -o target/refusals tests/refusals.c target/staticlib/libpinebuckle.a && target/refusals
  *
  * Every field of every answer, every number lent and the guard behind it, and every number of the state is compared. Prints what differs, its numbers in

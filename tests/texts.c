@@ -1,7 +1,7 @@
 /* Reads strings of one to four octets, held to RFC 3629 by its numbers and not by its grammar: a text is characters, and a character is the octets of a number up
  * to 10FFFF that is no surrogate, as section 3 writes it. What is no text is 8. Run:
  *
- *     rt staticlib pinebuckle
+ *     tools/library
  *     gcc -std=c99 -Wall -Wextra -Werror -O1 -Iinclude -o target/texts tests/texts.c target/staticlib/libpinebuckle.a && target/texts
  *
  * It tries octets at the ends of the ranges, from the third on at the ends of the tails. `target/texts all` tries all strings of one to three octets, and all of

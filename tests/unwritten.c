@@ -1,6 +1,6 @@
 /* Goes through the refusals of a writing that the lists of tests/lists don't have, 1, 9 and, of dates, 14, on both sides of each edge. Run:
  *
- *     rt staticlib pinebuckle
+ *     tools/library
  *     gcc -std=c99 -Wall -Wextra -Werror -O1 -Iinclude -o target/unwritten tests/unwritten.c target/staticlib/libpinebuckle.a && target/unwritten
  *
  * Every field of every answer, every byte of the output and the guard behind it is compared, and all rows and bytes that were given. Prints what differs, its

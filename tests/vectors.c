@@ -1,6 +1,6 @@
 /* Holds the calls of pinebuckle.h to lists of answers from outside. Run:
  *
- *     rt staticlib pinebuckle
+ *     tools/library
  *     gcc -std=c99 -Wall -Wextra -Werror -O1 -Iinclude -o target/vectors tests/vectors.c target/staticlib/libpinebuckle.a
  *     target/vectors tests/lists/{altered,dates,examples,readings,replay,writings}.txt
  *

@@ -5,8 +5,8 @@
 //
 // The list is made by tools/leaves/main.rs, a Rust program. It and what this program has to write are made anew by
 //
-//     rustc --edition 2021 -O -o /tmp/make-leaves tools/leaves/main.rs
-//     /tmp/make-leaves > crates/leaves/stdout
+//     rustc --edition 2021 -O -o target/make-leaves tools/leaves/main.rs
+//     target/make-leaves > crates/leaves/stdout
 //
 // Its answers are those of `decode_u29` and `encode_u29` of the crate amf 1.0.0, and of Rust: `from_be_bytes` and `to_be_bytes` of
 // `u32` and `u64`, shifts and casts of `i32` and `i64`, `from_bits`, `to_bits` and casts of `f64`, and `String::from_utf8`, whose error
