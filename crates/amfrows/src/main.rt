@@ -2,8 +2,6 @@
 
 // Reads one value from standard input by 4,096 bytes and lists its rows on standard output, or says why it is refused.
 
-#![tactic(auto)]
-
 ghost use Rattle.std.specs.Prelude.{◌≡◌};
 ghost use Rattle.amfrows.specs.Taken.{waiting, taken_of, with_taken};
 

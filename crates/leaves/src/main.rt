@@ -12,8 +12,6 @@
 // `u32` and `u64`, shifts and casts of `i32` and `i64`, `from_bits`, `to_bits` and casts of `f64`, and `String::from_utf8`, whose error
 // tells a text that is cut from one that no more bytes can mend. The first lines of leaves.txt have the form of each kind.
 
-#![tactic(auto)]
-
 use lines::{Tally, Word};
 use std::io;
 use wire::{Bits, Moment, Part, Put, Read};
