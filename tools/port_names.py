@@ -19,6 +19,8 @@ COMMENT = re.compile(r'(?<!\S)--[^\n]*')
 DECLARES = re.compile(
     r"^\s*(?:(?:unfoldable|abbrev|pub|private|local)\s+)*(?:(?:data|record)\s+)?([^\s(){}.;,@\"«»:|]+)\s*(?:(?:\{[^{}]*\}|\([^()]*\))\s*)*:(?!=)"
 )
+LIST = re.compile(r"^\s+([a-z][\w-]*(?:\s+[a-z][\w-]*)+)\s*:(?!=)")
+NAMED = re.compile(r"\bas ([a-z][\w]{3,})")
 USE = re.compile(r"^\s*(?:pub )?(?:ghost )?use ([\w·.'+-]+?)\.\{([^}]*)\}", re.M | re.S)
 OWN_TYPE = re.compile(r"\b(?:pub )?(?:enum|struct|fn|const|mod) (\w+)")
 
@@ -59,7 +61,12 @@ def main():
             used.update(re.findall(r"\w+", code))
             continue
         used.update(WORD.findall(code))
+        if not of_function(path):
+            declared.update(w for w in NAMED.findall(code) if re.search(r"[a-z0-9][A-Z]", w))
         for line in code.split("\n"):
+            m = LIST.match(line)
+            if m and not of_function(path):
+                declared.update(w for w in m.group(1).split() if re.search(r"[a-z0-9][A-Z]", w))
             m = DECLARES.match(line)
             if m and not line.strip().startswith(("use", "|", "λ", "[")) and m.group(1) not in ("λ", "let"):
                 (goals if of_function(path) else declared).add(m.group(1))

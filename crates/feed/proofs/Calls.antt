@@ -5,7 +5,7 @@ use mathlib.Core.List.{List}
 use Prim.Native.Nat.{ℕ, zero, suc}
 use lib.Dec.{eqb}
 use lib.ListN.{replicate}
-use borrow.Author.Tests.{eq-eqb, ne_eqb}
+use borrow.Author.Tests.{ne_eqb}
 use Rattle.rows.specs.declared.Cursor.{Cursor}
 use Rattle.rows.specs.Memory.{Memory, fresh, zeroed, fault_of, no_span}
 use Rattle.format.specs.declared.Answer.{Answer}
@@ -16,7 +16,7 @@ use Rattle.format.specs.Reading.{finished, refused}
 use Rattle.format.specs.Step as step
 use Rattle.format.specs.Step.{wait, over, none}
 use Rattle.format.specs.Numbers.{Numbers, Held, held, state_of, after_step, numbers_of, mode_of, frames_of, work_of, work, no_trait, laid, lent_of, finishable}
-use Rattle.format.specs.Answers.{Fed, fed, answer_of, answered, blank, begin_call, run_held, taken_by, feed_call, end_of, end_call}
+use Rattle.format.specs.Answers.{fed, answer_of, answered, blank, begin_call, run_held, taken_by, feed_call, end_of, end_call}
 use Rattle.format.proofs.Tests.{on_bool, clash}
 use Rattle.decide.specs.declared.Refusal.{Refusal}
 use Rattle.resume.specs.declared.Next.TheVariants.{Wait, Refused}

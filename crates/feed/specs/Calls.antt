@@ -1,5 +1,5 @@
 -- A state that is lent, as numbers, and what its end is.
-use Rattle.std.specs.Prelude.{cond, ◌-◌, eqb}
+use Rattle.std.specs.Prelude.{cond, eqb}
 use Rattle.format.specs.declared.Head.{Head}
 use Rattle.format.specs.Numbers.{Numbers}
 use Rattle.decide.specs.declared.Refusal.{Refusal}

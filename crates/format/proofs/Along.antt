@@ -38,8 +38,8 @@ use Rattle.format.specs.Decide.{Out, lift, looking, on_rows}
 use Rattle.format.specs.Decide.{Body, xml, date, array, bytes, raw, objects, dictionary, Kind, leaf, integer, double, string, object, sized}
 use Rattle.format.specs.Decide.{kind_of, marker, class_of, trait_of, reserved}
 use Rattle.format.specs.Step.{Pairing, assoc, dynamics, Task, pairs_of, items_of, members_of, keys_of, values_of, strange, task_of, Use}
-use Rattle.format.specs.Step.{for_string, for_key, for_class, for_external, for_name, for_vector, Text, xml_text, table_text, Word, integerWord, objectWord}
-use Rattle.format.specs.Step.{size_word, text_word, Number, doubleBits, dateBits, Flag, raw_flag, objectsFlag, dictionaryFlag, Raw, byte_array, raw_vector}
+use Rattle.format.specs.Step.{for_string, for_key, for_class, for_external, for_name, for_vector, Text, xml_text, table_text, Word, integer_word, object_word}
+use Rattle.format.specs.Step.{size_word, text_word, Number, double_bits, date_bits, Flag, raw_flag, objects_flag, dictionary_flag, Raw, byte_array, raw_vector}
 use Rattle.format.specs.Step.{Mode, at_marker, at_word, at_number, at_flag, at_text, at_raw, astray, State, wait, over, on, broken}
 use Rattle.format.specs.Step.{go, entry, pop, onward, keyed, naming, had, text_done, reserved_for, string_sized, roomy, texting}
 use Rattle.format.specs.Step.{raw_row, filling, opened, body_sized, object_shaped, worded, number_done, flag_done, raw_grown, begun, shown, on_part, act, step, run}
@@ -353,21 +353,21 @@ module _ {B : Type 0} {lent : Lent} {at : ℕ} (ts : List Frame) (fits : length 
 
   good-word : (w : Word) (n : ℕ) (c : Cursor) (m : Memory) → Holds lent (suc at) c m → WordIn w c → (B → n < 2 ^ 29) → Able B lent (suc at) (worded ts w n c m)
   unfolding worded
-  good-word (integerWord row) n c m h has few = search (good, keeps-integer, good-popped)
-  good-word (objectWord row) n c m h has few = good-object row (shape_of n) c m h has (shaped_in n few)
+  good-word (integer_word row) n c m h has few = search (good, keeps-integer, good-popped)
+  good-word (object_word row) n c m h has few = good-object row (shape_of n) c m h has (shaped_in n few)
   good-word (size_word row body) n c m h has few = good-body row body (size_of n) c m h has (old_in n few)
   good-word (text_word u) n c m h has few = good-string u (size_of n) c m h has (old_in n few)
 
   good-number : (d : Number) (bits : ℕ) (c : Cursor) (m : Memory) → Holds lent (suc at) c m → (B → bits < 2 ^ 64) → Able B lent (suc at) (number_done ts d bits c m)
   unfolding number_done
-  good-number (doubleBits row) bits c m h few = search (good, keeps-numbered, good-popped)
-  good-number (dateBits row) bits c m h few = search (good, keeps-date, good-popped)
+  good-number (double_bits row) bits c m h few = search (good, keeps-numbered, good-popped)
+  good-number (date_bits row) bits c m h few = search (good, keeps-date, good-popped)
 
   good-flag : (f : Flag) (b : ℕ) (c : Cursor) (m : Memory) → Holds lent (suc at) c m → FlagIn f c → Able B lent (suc at) (flag_done ts f b c m)
   unfolding flag_done
   good-flag (raw_flag row w s) b c m h (has, sp) = search (good, keeps-flagged, good-filling)
-  good-flag (objectsFlag row n) b c m h has = search (good, keeps-flagged)
-  good-flag (dictionaryFlag row n) b c m h has = search (good, keeps-flagged, good-onward)
+  good-flag (objects_flag row n) b c m h has = search (good, keeps-flagged)
+  good-flag (dictionary_flag row n) b c m h has = search (good, keeps-flagged, good-onward)
 
   good-begun : (row : ℕ) (k : Kind) (c : Cursor) (m : Memory) → Holds lent (suc at) c m → RowIn row c → Able B lent (suc at) (begun ts row k c m)
   unfolding begun

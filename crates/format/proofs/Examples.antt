@@ -1,7 +1,7 @@
 -- The worked examples of document 01: one list, and one proof over it, for the whole reading, for the feed byte by byte with its end, and for the standard.
 use mathlib.Core.Path.{◌≡◌, refl}
 use mathlib.Core.List.{List, [], ◌∷◌, ◌++◌, map}
-use Prim.Native.Nat.{ℕ, zero, suc, ◌+◌, ◌*◌, ◌-◌, ◌^◌}
+use Prim.Native.Nat.{ℕ, zero, suc, ◌+◌, ◌-◌, ◌^◌}
 use lib.Ieee as ieee
 use lib.ListN.{length, replicate, take}
 use Rattle.rows.specs.declared.Cursor.{Cursor}

@@ -17,7 +17,7 @@ use Rattle.utf8.specs.Grammar.{valid_text}
 use Rattle.format.specs.Standard.{is_star}
 use Rattle.format.specs.Unfold.{body_of, key_text}
 use Rattle.format.specs.RowTest.{has_text, has_body, has_class, has_flag, has_number, has_count, has_count2, is_object, is_raw, span_fits, mark_fits, meant, columns_fit, signed_fits}
-use Rattle.format.specs.RowTest.{value_fits, children, closes, Given, keyless, anyKey, fullKey, given, mark_of, is_filled, well_formed, number_writable, body_writable, key_writable}
+use Rattle.format.specs.RowTest.{value_fits, children, closes, Given, keyless, any_key, full_key, given, mark_of, is_filled, well_formed, number_writable, body_writable, key_writable}
 use Rattle.format.specs.RowTest.{writable}
 use Rattle.format.specs.Faults.{BadSpan, past, empty_past, BadMark, no_mark, unmarked, marked, Outside, between, beyond, Malformed, Unwritable}
 use Rattle.format.specs.Faults as why
@@ -178,8 +178,8 @@ module _ (R B : List ℕ) (i : ℕ) where
   bad-given : (g : Given) → given R i ≡ g → mark_fits B (col R i col_key_mark) (col R i col_key_begin) (col R i col_key_size) ≡ true
       → eqb (col R i col_key_mark) (mark_of g) ≡ false → Malformed R B i
   bad-given keyless q h e = why.key_ungiven q (above (col R i col_key_mark) e)
-  bad-given anyKey q h e = why.key_missing (λ k. clash cc) (no_key h e)
-  bad-given fullKey q h e = why.key_missing (λ k. clash cc) (no_key h e)
+  bad-given any_key q h e = why.key_missing (λ k. clash cc) (no_key h e)
+  bad-given full_key q h e = why.key_missing (λ k. clash cc) (no_key h e)
 
   -- a row that isn't well formed is malformed for one of the reasons
   pub malformed : well_formed R B i ≡ false → Malformed R B i
@@ -297,8 +297,8 @@ module _ (R B : List ℕ) (i : ℕ) where
   -- a key that a row is given
   key-given : (g : Given) → g ≢ keyless → eqb (col R i col_key_mark) (mark_of g) ≡ true → col R i col_key_mark ≡ 1
   key-given keyless n e = absurd (n refl)
-  key-given anyKey n e = eqb-true (col R i col_key_mark) 1 e
-  key-given fullKey n e = eqb-true (col R i col_key_mark) 1 e
+  key-given any_key n e = eqb-true (col R i col_key_mark) 1 e
+  key-given full_key n e = eqb-true (col R i col_key_mark) 1 e
 
   none_of : Formed → Malformed R B i → ⊥
   none_of h (why.after_root l) = let k = ltb-true i (col R 0 col_end) h.root in omega arith
@@ -367,8 +367,8 @@ module _ (R B : List ℕ) (i : ℕ) where
 
   bad-key : (g : Given) → given R i ≡ g → (ltb 0 (col R i col_key_size) || not (is_filled g)) ≡ false → Unwritable R B i
   bad-key keyless q e = let (f, g) = neither (ltb 0 (col R i col_key_size)) true e in clash cc
-  bad-key anyKey q e = let (f, g) = neither (ltb 0 (col R i col_key_size)) true e in clash cc
-  bad-key fullKey q e = let (f, g) = neither (ltb 0 (col R i col_key_size)) false e in why.empty_key q (let l = ltb-false 0 (col R i col_key_size) f in omega arith)
+  bad-key any_key q e = let (f, g) = neither (ltb 0 (col R i col_key_size)) true e in clash cc
+  bad-key full_key q e = let (f, g) = neither (ltb 0 (col R i col_key_size)) false e in why.empty_key q (let l = ltb-false 0 (col R i col_key_size) f in omega arith)
 
   -- a row that can't be written has one of the reasons
   pub unwritable : writable R B i ≡ false → Unwritable R B i
@@ -420,10 +420,10 @@ module _ (R B : List ℕ) (i : ℕ) where
         | no k ↦ (let z = class-kind c (ne_eqb (col R i col_kind) kind_object k) in rw z)
       ]
 
-  key-full : (g : Given) → g ≡ fullKey → (ltb 0 (col R i col_key_size) || not (is_filled g)) ≡ true → col R i col_key_size ≡ 0 → ⊥
+  key-full : (g : Given) → g ≡ full_key → (ltb 0 (col R i col_key_size) || not (is_filled g)) ≡ true → col R i col_key_size ≡ 0 → ⊥
   key-full keyless q e z = clash cc
-  key-full anyKey q e z = clash cc
-  key-full fullKey q e z = let o : (ltb 0 0 || false) ≡ true = rw z at e in clash cc
+  key-full any_key q e z = clash cc
+  key-full full_key q e z = let o : (ltb 0 0 || false) ≡ true = rw z at e in clash cc
 
   none-unwritable : Written → Unwritable R B i → ⊥
   none-unwritable h (why.bad_text t e) = let k = text-valid t h.body in clash cc

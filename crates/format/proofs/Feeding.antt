@@ -27,11 +27,11 @@ use Rattle.format.specs.Decide.{objects, dictionary, Kind, leaf, integer, double
 use Rattle.format.specs.Decide.{bodied, vector_class, fixed, weak, flagged, counted, key_end, judged, text_end, trait_of, named, trait_end, sealed_key, starred}
 use Rattle.format.specs.Decide.{object_class, old_text, reserved, stored, entered, referred, old_trait}
 use Rattle.format.specs.Reading.{refusal, ended, reading, taken, ok, bad, bind, ◌>>=◌, ◌>>◌, ret, Result, Reader, decided, by, byte, u29, number, chars}
-use Rattle.format.specs.Reading.{fill, text_of, text, plain, Values, entries, pair, pairs, couple, names, dynamics as dynamicsOf, members as membersRead}
-use Rattle.format.specs.Reading.{inlined, object_of, room, chars_of, filled, new_of, sized_of, marked, value, Ended, finished, refused, on_part as partRead}
+use Rattle.format.specs.Reading.{fill, text_of, text, plain, Values, entries, pair, pairs, couple, names, dynamics as dynamics_of, members as members_read}
+use Rattle.format.specs.Reading.{inlined, object_of, room, chars_of, filled, new_of, sized_of, marked, value, Ended, finished, refused, on_part as part_read}
 use Rattle.format.specs.Step.{Pairing, assoc, dynamics, dense, vector, count_of, Task, pairs_of, items_of, members_of, keys_of, values_of, strange, task_of}
-use Rattle.format.specs.Step.{frame_of, Use, for_string, for_key, for_class, for_external, for_name, for_vector, Text, xml_text, table_text, Word, integerWord}
-use Rattle.format.specs.Step.{objectWord, size_word, text_word, Number, doubleBits, dateBits, Flag, raw_flag, objectsFlag, dictionaryFlag, Raw, raw_vector}
+use Rattle.format.specs.Step.{frame_of, Use, for_string, for_key, for_class, for_external, for_name, for_vector, Text, xml_text, table_text, Word, integer_word}
+use Rattle.format.specs.Step.{object_word, size_word, text_word, Number, double_bits, date_bits, Flag, raw_flag, objects_flag, dictionary_flag, Raw, raw_vector}
 use Rattle.format.specs.Step.{Mode, at_marker, at_word, at_number, at_flag, at_text, at_raw, astray, State, wait, over, none, on, at_string, go}
 use Rattle.format.specs.Step.{entry, pop, onward, keyed, members, naming, had, text_done, reserved_for, string_sized, roomy, texting, raw_row, filling}
 use Rattle.format.specs.Step.{opened, body_sized, object_shaped, worded, number_done, flag_done, raw_grown, begun, on_part, shown, act, step, run, begin, end}
@@ -114,7 +114,7 @@ after_key rd p s l = pair rd (row_of p) (col_of p) (done_of p) (pairs rd (row_of
 task : Values → Task → Reader Unit
 task rd (pairs_of p) = pairing rd p
 task rd (items_of i row n done) = items rd row (count_of i) n done >> close row
-task rd (members_of row n done first y) = sealeds rd row first n done >> dynamicsOf rd row y >> close row
+task rd (members_of row n done first y) = sealeds rd row first n done >> dynamics_of rd row y >> close row
 task rd (keys_of row n done) = doubles rd row n done >> close row
 task rd (values_of row n done) = rd no_key >> by (on_rows (counted row col_count done)) >> doubles rd row n (suc done) >> close row
 task rd strange = by (λ m c. lost)
@@ -131,7 +131,7 @@ counts strange = by (λ m c. lost)
 
 -- so many names of a trait, its entry, and the members
 names_left : Values → ℕ → Trait → ℕ → Reader Unit
-names_left rd row t n = names n >> by (on_traits (trait_end t)) >> membersRead rd row t
+names_left rd row t n = names n >> by (on_traits (trait_end t)) >> members_read rd row t
 
 after_use : Values → Use → Span → Reader Unit
 after_use rd (for_string row) s = by (on_rows (bodied row s)) >> close row
@@ -151,22 +151,22 @@ after_text rd (xml_text row) s valid = by (looking (λ m. judged valid)) >> clos
 after_text rd (table_text u) s valid = by (on_strings (text_end s valid)) >>= after_use rd u
 
 after_word : Values → Word → ℕ → Reader Unit
-after_word rd (integerWord row) n = by (on_rows (integer_end row n))
-after_word rd (objectWord row) n = object_of rd row (shape_of n)
+after_word rd (integer_word row) n = by (on_rows (integer_end row n))
+after_word rd (object_word row) n = object_of rd row (shape_of n)
 after_word rd (size_word row body) n = sized_of rd row body (size_of n)
 after_word rd (text_word u) n = text_of (at_use u) (size_of n) >>= after_use rd u
 
 after_number : Number → ℕ → Reader Unit
-after_number (doubleBits row) bits = by (on_rows (numbered row bits))
-after_number (dateBits row) bits = by (on_rows (date_end row bits))
+after_number (double_bits row) bits = by (on_rows (numbered row bits))
+after_number (date_bits row) bits = by (on_rows (date_end row bits))
 
 abbrev growing : Raw → Span → ℕ → Reader Unit
 growing r s left = by (raw_grown r s left)
 
 after_flag : Values → Flag → ℕ → Reader Unit
 after_flag rd (raw_flag row w s) b = by (on_rows (flagged row (fixed b))) >> filled (growing (raw_vector row w) s) s s.size >> close row
-after_flag rd (objectsFlag row n) b = by (on_rows (flagged row (fixed b))) >> text plain >>= after_use rd (for_vector row n)
-after_flag rd (dictionaryFlag row n) b = by (on_rows (flagged row (weak b))) >> doubles rd row n 0 >> close row
+after_flag rd (objects_flag row n) b = by (on_rows (flagged row (fixed b))) >> text plain >>= after_use rd (for_vector row n)
+after_flag rd (dictionary_flag row n) b = by (on_rows (flagged row (weak b))) >> doubles rd row n 0 >> close row
 
 -- what the frames around still have to read, when a value of theirs is finished
 rest : List Frame → Cont Unit
@@ -390,7 +390,7 @@ module _ (ts : List Frame) where
 
   module _ (k : Cursor → Memory → State) (h : (c : Cursor) (m : Memory) (bs : List ℕ) → sem (k c m) bs ≡ rest ts tt m c bs) where
     sem-go : (t : Task) (c : Cursor) (m : Memory) (bs : List ℕ) → sem (go k ts t c m) bs ≡ and_then (task (inner ts) t m c bs) (rest ts)
-    unfolding go task entries couple dynamicsOf counts pairing shown
+    unfolding go task entries couple dynamics_of counts pairing shown
     sem-go (pairs_of p) c m bs = sem-next p c m bs
     sem-go (items_of i row zero done) c m bs = simp (go, sem-on, calm, h)
     sem-go (items_of i row (suc n) done) c m bs = simp (go, sem-child, flat)
@@ -429,8 +429,8 @@ module _ (ts : List Frame) where
   sem-onward t c m bs = sem-go ts (pop ts) (sem-pop ts) t c m bs
 
   sem-members : (row : ℕ) (t : Trait) (c : Cursor) (m : Memory) (bs : List ℕ)
-      → sem (members ts row t c m) bs ≡ and_then (membersRead (inner ts) row t m c bs) (rest ts)
-  unfolding task membersRead
+      → sem (members ts row t c m) bs ≡ and_then (members_read (inner ts) row t m c bs) (rest ts)
+  unfolding task members_read
   sem-members row t c m bs = sem-onward (members_of row t.count 0 t.first t.dynamic) c m bs
 
   sem-wait : (x : Mode) (c : Cursor) (m : Memory) (bs : List ℕ) → sem (wait x ts c m) bs ≡ and_then (left x ts m c bs) (rest ts)
@@ -523,8 +523,8 @@ module _ (ts : List Frame) where
   sem-word : (w : Word) (n : ℕ) (c : Cursor) (m : Memory) (bs : List ℕ)
       → sem (worded ts w n c m) bs ≡ and_then (after_word (inner ts) w n m c bs) (rest ts)
   unfolding worded after_word
-  sem-word (integerWord row) n c m bs = simp (worded, sem-on, calm, sem-pop)
-  sem-word (objectWord row) n c m bs = sem-object row (shape_of n) c m bs
+  sem-word (integer_word row) n c m bs = simp (worded, sem-on, calm, sem-pop)
+  sem-word (object_word row) n c m bs = sem-object row (shape_of n) c m bs
   sem-word (size_word row body) n c m bs = sem-body row body (size_of n) c m bs
   sem-word (text_word u) n c m bs = sem-string u (size_of n) c m bs
 
@@ -533,15 +533,15 @@ module _ (ts : List Frame) where
   sem-number : (d : Number) (bits : ℕ) (c : Cursor) (m : Memory) (bs : List ℕ)
       → sem (number_done ts d bits c m) bs ≡ and_then (after_number d bits m c bs) (rest ts)
   unfolding number_done after_number
-  sem-number (doubleBits row) bits c m bs = simp (number_done, sem-on, calm, sem-pop)
-  sem-number (dateBits row) bits c m bs = simp (number_done, sem-on, calm, sem-pop)
+  sem-number (double_bits row) bits c m bs = simp (number_done, sem-on, calm, sem-pop)
+  sem-number (date_bits row) bits c m bs = simp (number_done, sem-on, calm, sem-pop)
 
   sem-flag : (f : Flag) (b : ℕ) (c : Cursor) (m : Memory) (bs : List ℕ)
       → sem (flag_done ts f b c m) bs ≡ and_then (after_flag (inner ts) f b m c bs) (rest ts)
   unfolding flag_done after_flag after_use reserved_for task
   sem-flag (raw_flag row w s) b c m bs = simp (flag_done, sem-on, calm, sem-filling, flat)
-  sem-flag (objectsFlag row n) b c m bs = simp (flag_done, sem-on, calm, sem_use, flat)
-  sem-flag (dictionaryFlag row n) b c m bs = simp (flag_done, sem-on, calm, sem-onward, flat)
+  sem-flag (objects_flag row n) b c m bs = simp (flag_done, sem-on, calm, sem_use, flat)
+  sem-flag (dictionary_flag row n) b c m bs = simp (flag_done, sem-on, calm, sem-onward, flat)
 
   sem-begun : (row : ℕ) (k : Kind) (c : Cursor) (m : Memory) (bs : List ℕ)
       → sem (begun ts row k c m) bs ≡ and_then (marked (inner ts) row k m c bs) (rest ts)
@@ -568,7 +568,7 @@ sem-part (Whole n) m more whole bs = refl
 sem-part Astray m more whole bs = sem-over _ bs
 
 part-read : (p : Part) (rd : ℕ → Reader ℕ) (m : Memory) (c : Cursor) (bs : List ℕ) (k : Cont ℕ)
-    → and_then (partRead rd p m c bs) k ≡ parted p m (λ n. and_then (rd n m c bs) k) (λ n. k n m c bs)
+    → and_then (part_read rd p m c bs) k ≡ parted p m (λ n. and_then (rd n m c bs) k) (λ n. k n m c bs)
 part-read (More n) rd m c bs k = refl
 part-read (Whole n) rd m c bs k = refl
 part-read Astray rd m c bs k = refl

@@ -10,14 +10,13 @@ use lib.Dec.{eqb}
 use lib.ListN.{length}
 use Rattle.rows.specs.Memory.{Memory, zeroed}
 use Rattle.wire.proofs.Octets.{Bytes}
-use Rattle.format.specs.declared.Answer.{Answer}
-use Rattle.format.specs.declared.Answer.TheVariants.{Waiting, Finished, Refused}
+use Rattle.format.specs.declared.Answer.TheVariants.{Finished, Refused}
 use Rattle.format.specs.declared.Lent.{Lent}
 use Rattle.format.specs.Reading.{Ended, finished, refused}
 use Rattle.format.specs.Step.{State, wait, over, none, run, end, begin}
 use Rattle.format.specs.Numbers.{Numbers, Held, held, finishable, lent_of, state_of, numbers_of, memory_of, after_step, byte_step}
 use Rattle.format.specs.Answers.{Fed, fed, answer_of, answered, blank, begin_call, run_held, cost_from, state_in, taken_by, feed_call, end_of, end_call}
-use Rattle.format.specs.Answers.{Read, read, read_of, read_call}
+use Rattle.format.specs.Answers.{read, read_of, read_call}
 use Rattle.format.proofs.Tests.{on_bool}
 use Rattle.format.proofs.Feeding.{feeding}
 use Rattle.format.proofs.Cuts.{joined}

@@ -2,7 +2,7 @@
 use mathlib.Core.Path.{◌≡◌}
 use mathlib.Core.Bool.{◌&&◌}
 use mathlib.Core.List.{List}
-use Prim.Native.Nat.{ℕ, ◌<◌}
+use Prim.Native.Nat.{ℕ}
 use lib.Dec.{T, leb}
 use Rattle.rows.specs.declared.Cursor.{Cursor}
 use Rattle.rows.specs.Memory.{Memory, zeroed, loan_rows, loan_names}
@@ -11,7 +11,6 @@ use Rattle.format.specs.Step.{Mode, State, wait, over, act}
 use Rattle.format.specs.Reading.{finished, refused}
 use Rattle.format.proofs.Reasons.{Lacks, no_row, no_store, no_string, no_object, no_trait, no_name, reasons_act}
 use Rattle.format.proofs.Reasons as reasons
-use Rattle.format.specs.Refusals as refusals
 pub use Rattle.format.specs.Byte.{RefusedBy, unknown, absent, unfinished, external, undated, invalid, deep, full, astrays}
 
 -- a state after it

@@ -30,8 +30,8 @@ use Rattle.format.specs.Decide.{string, object, sized, kind_of, marker, closed, 
 use Rattle.format.specs.Decide.{integer_end, date_end, bodied, classed, object_class, vector_class, flagged, counted, key_end, grown, old_text, reserved, stored}
 use Rattle.format.specs.Decide.{judged, text_end, entered, referred, trait_of, old_trait, named, trait_end, trait_holds, sealed_key, starred}
 use Rattle.format.specs.Step.{Pairing, assoc, dynamics, Task, pairs_of, items_of, members_of, keys_of, values_of, strange, task_of, Use, for_string, for_key}
-use Rattle.format.specs.Step.{for_class, for_external, for_name, for_vector, Text, xml_text, table_text, Word, integerWord, objectWord, size_word, text_word}
-use Rattle.format.specs.Step.{Number, doubleBits, dateBits, Flag, raw_flag, objectsFlag, dictionaryFlag, Raw, byte_array, raw_vector, Mode, at_marker}
+use Rattle.format.specs.Step.{for_class, for_external, for_name, for_vector, Text, xml_text, table_text, Word, integer_word, object_word, size_word, text_word}
+use Rattle.format.specs.Step.{Number, double_bits, date_bits, Flag, raw_flag, objects_flag, dictionary_flag, Raw, byte_array, raw_vector, Mode, at_marker}
 use Rattle.format.specs.Step.{at_word, at_number, at_flag, at_text, at_raw, astray, State, wait, over, on, broken, go, entry, pop, onward, keyed, naming}
 use Rattle.format.specs.Step.{had, text_done, reserved_for, string_sized, roomy, texting, filling, opened, body_sized, object_shaped, worded, number_done}
 use Rattle.format.specs.Step.{flag_done, raw_grown, begun, shown, on_part, act}
@@ -396,14 +396,14 @@ module _ {D : Type 0} {E : ℕ → Type 0} {b p : ℕ} where
 
     placed-number : (d : Number) (bits : ℕ) (c : Cursor) (m : Memory) → c.at ≡ p → Placed D E b p (number_done ts d bits c m)
     unfolding number_done
-    placed-number (doubleBits row) bits c m e = search (placing, says-numbered, placed-pop)
-    placed-number (dateBits row) bits c m e = search (placing, says-date, placed-pop)
+    placed-number (double_bits row) bits c m e = search (placing, says-numbered, placed-pop)
+    placed-number (date_bits row) bits c m e = search (placing, says-date, placed-pop)
 
     placed-flag : (f : Flag) (v : ℕ) (c : Cursor) (m : Memory) → c.at ≡ p → Placed D E b p (flag_done ts f v c m)
     unfolding flag_done
     placed-flag (raw_flag row w s) v c m e = search (placing, says-flagged, placed-filling)
-    placed-flag (objectsFlag row n) v c m e = search (placing, says-flagged)
-    placed-flag (dictionaryFlag row n) v c m e = search (placing, says-flagged, placed-onward)
+    placed-flag (objects_flag row n) v c m e = search (placing, says-flagged)
+    placed-flag (dictionary_flag row n) v c m e = search (placing, says-flagged, placed-onward)
 
     placed-begun : (row : ℕ) (k : Kind) (c : Cursor) (m : Memory) → c.at ≡ p → Placed D E b p (begun ts row k c m)
     unfolding begun
@@ -432,8 +432,8 @@ module _ {b p : ℕ} (ts : List Frame) (c : Cursor) (m : Memory) (e : c.at ≡ p
   placed-word : (w : Word) (left part n : ℕ) → part_of left part b ≡ Whole n
       → Placed (Deep (at_word w left part) b ts) (Lacks c m b (at_word w left part)) b p (worded ts w n c m)
   unfolding worded
-  placed-word (integerWord row) left part n q = search (placing, says-integer, placed-pop)
-  placed-word (objectWord row) left part n q = placed-object ts row (shape_of n) c m e (no_object q)
+  placed-word (integer_word row) left part n q = search (placing, says-integer, placed-pop)
+  placed-word (object_word row) left part n q = placed-object ts row (shape_of n) c m e (no_object q)
   placed-word (size_word row body) left part n q = placed-body ts row body (size_of n) c m e (no_object q) (no_store q)
   placed-word (text_word u) left part n q =
       placed-string ts u (size_of n) c m e (λ h. no_trait (there (size_of n) refl h)) (λ h. no_name (there (size_of n) refl h)) (no_store q (λ z. absurd z))

@@ -15,7 +15,7 @@ use Rattle.wire.proofs.Octets.{Bytes}
 use Rattle.format.specs.declared.Lent.{Lent}
 use Rattle.format.specs.declared.Frame.{Frame}
 use Rattle.format.specs.Step.{assoc, dynamics, Use, for_string, for_key, for_class, for_external, for_name, for_vector, xml_text, table_text}
-use Rattle.format.specs.Step.{Word, integerWord, objectWord, size_word, text_word, Number, doubleBits, dateBits, raw_flag, objectsFlag, dictionaryFlag}
+use Rattle.format.specs.Step.{Word, integer_word, object_word, size_word, text_word, Number, double_bits, date_bits, raw_flag, objects_flag, dictionary_flag}
 use Rattle.format.specs.Step.{Mode, at_marker, at_word, at_number, at_flag, at_text, at_raw, astray, State, wait, over, none, step, run, begin}
 use Rattle.format.specs.Numbers.{counts_fit, use_fits, word_fits, number_row, mode_fits, pairs_used, pairs_fit, depth_fits, finishable, frames_size}
 use Rattle.format.specs.Numbers.{Numbers, lent_of, same_lent, sound, sound_step, Held, held, state_of, numbers_of, memory_of, after_step, stepped, byte_step}
@@ -87,14 +87,14 @@ tests_use (for_vector row n) c = search testing
 
 tests-word : (w : Word) (c : Cursor) → Tests (word_fits c w) (WordIn w c)
 unfolding word_fits
-tests-word (integerWord row) c = search testing
-tests-word (objectWord row) c = search testing
+tests-word (integer_word row) c = search testing
+tests-word (object_word row) c = search testing
 tests-word (size_word row body) c = search testing
 tests-word (text_word u) c = tests_use u c
 
 tests-number : (d : Number) (c : Cursor) → Tests (ltb (number_row d) c.rows) (NumberIn d c)
-tests-number (doubleBits row) c = search testing
-tests-number (dateBits row) c = search testing
+tests-number (double_bits row) c = search testing
+tests-number (date_bits row) c = search testing
 
 -- a key's span is asked for where its mark isn't 0
 tests-key : (k : Key) (c : Cursor) → Tests (eqb k.mark 0 || span_used c (span k.begin k.size)) (KeyIn k c)
@@ -112,8 +112,8 @@ tests-mode (at_marker k) c = tests-key k c
 tests-mode (at_word w left part) c = search (testing, tests-word)
 tests-mode (at_number d left part) c = search (testing, tests-number)
 tests-mode (at_flag (raw_flag row w s)) c = search testing
-tests-mode (at_flag (objectsFlag row n)) c = search testing
-tests-mode (at_flag (dictionaryFlag row n)) c = search testing
+tests-mode (at_flag (objects_flag row n)) c = search testing
+tests-mode (at_flag (dictionary_flag row n)) c = search testing
 tests-mode (at_text (xml_text row) s left test) c = search testing
 tests-mode (at_text (table_text u) s left test) c = search (testing, tests_use)
 tests-mode (at_raw r s left) c = search testing
@@ -130,8 +130,8 @@ tests-used (for_vector row n) c = tests_always
 
 tests-pairs : (x : Mode) (c : Cursor) → Tests (pairs_fit c x) (PairsIn x c)
 tests-pairs (at_marker k) c = tests_always
-tests-pairs (at_word (integerWord row) left part) c = tests_always
-tests-pairs (at_word (objectWord row) left part) c = tests_always
+tests-pairs (at_word (integer_word row) left part) c = tests_always
+tests-pairs (at_word (object_word row) left part) c = tests_always
 tests-pairs (at_word (size_word row body) left part) c = tests_always
 tests-pairs (at_word (text_word u) left part) c = tests-used u c
 tests-pairs (at_number d left part) c = tests_always

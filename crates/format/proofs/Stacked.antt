@@ -26,8 +26,8 @@ use Rattle.format.specs.Decide.{grown, old_text, reserved, stored, judged, text_
 use Rattle.format.specs.Decide.{Out, lift, looking, on_rows, on_store, on_strings, on_objects, on_traits, on_names, kind_of}
 use Rattle.format.specs.Decide.{Body, xml, date, array, bytes, raw, objects, dictionary, Kind, leaf, integer, double, string, object, sized}
 use Rattle.format.specs.Step.{Pairing, assoc, dynamics, dense, vector, Task, pairs_of, items_of, members_of, keys_of, values_of, strange, task_of, frame_of}
-use Rattle.format.specs.Step.{Use, for_string, for_key, for_class, for_external, for_name, for_vector, Text, xml_text, table_text, Word, integerWord}
-use Rattle.format.specs.Step.{objectWord, size_word, text_word, Number, doubleBits, dateBits, Flag, raw_flag, objectsFlag, dictionaryFlag, Raw, byte_array}
+use Rattle.format.specs.Step.{Use, for_string, for_key, for_class, for_external, for_name, for_vector, Text, xml_text, table_text, Word, integer_word}
+use Rattle.format.specs.Step.{object_word, size_word, text_word, Number, double_bits, date_bits, Flag, raw_flag, objects_flag, dictionary_flag, Raw, byte_array}
 use Rattle.format.specs.Step.{raw_vector, raw_row, Mode, at_marker, at_word, at_number, at_flag, at_text, at_raw, astray, State, wait, over, none, on}
 use Rattle.format.specs.Step.{go, entry, pop, onward, keyed, naming, had, text_done, reserved_for, string_sized, roomy, texting, filling, opened}
 use Rattle.format.specs.Step.{body_sized, object_shaped, worded, number_done, flag_done, raw_grown, begun, shown, on_part, act, step, run, begin_at, begin}
@@ -75,15 +75,15 @@ TextOn (xml_text row) ts n = Under ts row n
 TextOn (table_text u) ts n = UseOn u ts n
 
 abbrev pub WordOn : Word → List Frame → ℕ → Type 0
-WordOn (integerWord row) ts n = Under ts row n
-WordOn (objectWord row) ts n = Under ts row n
+WordOn (integer_word row) ts n = Under ts row n
+WordOn (object_word row) ts n = Under ts row n
 WordOn (size_word row body) ts n = Under ts row n
 WordOn (text_word u) ts n = UseOn u ts n
 
 abbrev pub FlagOn : Flag → List Frame → ℕ → Type 0
 FlagOn (raw_flag row w s) ts n = Under ts row n
-FlagOn (objectsFlag row entries) ts n = Under ts row n
-FlagOn (dictionaryFlag row entries) ts n = Under ts row n
+FlagOn (objects_flag row entries) ts n = Under ts row n
+FlagOn (dictionary_flag row entries) ts n = Under ts row n
 
 abbrev pub ModeOn : Mode → List Frame → ℕ → Type 0
 ModeOn (at_marker k) ts n = Above ts n
@@ -112,8 +112,8 @@ pairs_of_lem (for_vector row entries) ts c left part h = tt
 
 pub mode-pairs : (x : Mode) (ts : List Frame) (c : Cursor) → ModeOn x ts c.rows → PairsIn x c
 mode-pairs (at_marker k) ts c h = tt
-mode-pairs (at_word (integerWord row) left part) ts c h = tt
-mode-pairs (at_word (objectWord row) left part) ts c h = tt
+mode-pairs (at_word (integer_word row) left part) ts c h = tt
+mode-pairs (at_word (object_word row) left part) ts c h = tt
 mode-pairs (at_word (size_word row body) left part) ts c h = tt
 mode-pairs (at_word (text_word u) left part) ts c h = pairs_of_lem u ts c left part h
 mode-pairs (at_number d left part) ts c h = tt
@@ -460,21 +460,21 @@ module _ (ts : List Frame) where
 
   stacked-word : (w : Word) (n : ℕ) (c : Cursor) (m : Memory) → WordOn w ts c.rows → Stacked (worded ts w n c m)
   unfolding worded
-  stacked-word (integerWord row) n c m h = search (rising, rows-integer, stacked-pop, room row h)
-  stacked-word (objectWord row) n c m h = stacked-object row (shape_of n) c m h
+  stacked-word (integer_word row) n c m h = search (rising, rows-integer, stacked-pop, room row h)
+  stacked-word (object_word row) n c m h = stacked-object row (shape_of n) c m h
   stacked-word (size_word row body) n c m h = stacked-body row body (size_of n) c m h
   stacked-word (text_word u) n c m h = stacked-string u (size_of n) c m h
 
   stacked-number : (d : Number) (bits : ℕ) (c : Cursor) (m : Memory) → Under ts (number_row d) c.rows → Stacked (number_done ts d bits c m)
   unfolding number_done
-  stacked-number (doubleBits row) bits c m h = search (rising, rows-numbered, stacked-pop, room row h)
-  stacked-number (dateBits row) bits c m h = search (rising, rows-date, stacked-pop, room row h)
+  stacked-number (double_bits row) bits c m h = search (rising, rows-numbered, stacked-pop, room row h)
+  stacked-number (date_bits row) bits c m h = search (rising, rows-date, stacked-pop, room row h)
 
   stacked-flag : (f : Flag) (b : ℕ) (c : Cursor) (m : Memory) → FlagOn f ts c.rows → Stacked (flag_done ts f b c m)
   unfolding flag_done
   stacked-flag (raw_flag row w s) b c m h = search (rising, rows-flagged, stacked-filling)
-  stacked-flag (objectsFlag row n) b c m h = search (rising, rows-flagged)
-  stacked-flag (dictionaryFlag row n) b c m h = search (rising, rows-flagged, stacked-onward)
+  stacked-flag (objects_flag row n) b c m h = search (rising, rows-flagged)
+  stacked-flag (dictionary_flag row n) b c m h = search (rising, rows-flagged, stacked-onward)
 
   stacked-begun : (row : ℕ) (k : Kind) (c : Cursor) (m : Memory) → Under ts row c.rows → Stacked (begun ts row k c m)
   unfolding begun

@@ -12,7 +12,7 @@ use Rattle.format.specs.declared.Frame.{Frame}
 use Rattle.format.specs.Decide.{xml, date, array, bytes, raw, objects, dictionary, four, eight}
 use Rattle.format.specs.Reading.{finished, refused}
 use Rattle.format.specs.Step.{assoc, dynamics, Use, for_string, for_key, for_class, for_external, for_name, for_vector, xml_text, table_text}
-use Rattle.format.specs.Step.{integerWord, objectWord, size_word, text_word, doubleBits, dateBits, raw_flag, objectsFlag, dictionaryFlag, byte_array, raw_vector}
+use Rattle.format.specs.Step.{integer_word, object_word, size_word, text_word, double_bits, date_bits, raw_flag, objects_flag, dictionary_flag, byte_array, raw_vector}
 use Rattle.format.specs.Step.{Mode, at_marker, at_word, at_number, at_flag, at_text, at_raw, astray, State, wait, over, none}
 use Rattle.format.specs.Numbers.{Numbers, frame_at, frames_of, frame_numbers, laid, body_purpose, mode_of, use_work, work_of}
 use Rattle.format.specs.Numbers.{finishable, state_of, numbers_of, memory_of, frames_size}
@@ -90,8 +90,8 @@ use-of (for_vector row n) s left part = (refl, refl)
 pub mode-of : (x : Mode) → mode_of (work_of x) ≡ x
 unfolding mode_of work_of body_purpose
 mode-of (at_marker k) = refl
-mode-of (at_word (integerWord row) left part) = refl
-mode-of (at_word (objectWord row) left part) = refl
+mode-of (at_word (integer_word row) left part) = refl
+mode-of (at_word (object_word row) left part) = refl
 mode-of (at_word (size_word row xml) left part) = refl
 mode-of (at_word (size_word row date) left part) = refl
 mode-of (at_word (size_word row array) left part) = refl
@@ -101,12 +101,12 @@ mode-of (at_word (size_word row dictionary) left part) = refl
 mode-of (at_word (size_word row (raw four)) left part) = refl
 mode-of (at_word (size_word row (raw eight)) left part) = refl
 mode-of (at_word (text_word u) left part) = (use-of u no_span left part).0
-mode-of (at_number (doubleBits row) left part) = refl
-mode-of (at_number (dateBits row) left part) = refl
+mode-of (at_number (double_bits row) left part) = refl
+mode-of (at_number (date_bits row) left part) = refl
 mode-of (at_flag (raw_flag row four s)) = refl
 mode-of (at_flag (raw_flag row eight s)) = refl
-mode-of (at_flag (objectsFlag row n)) = refl
-mode-of (at_flag (dictionaryFlag row n)) = refl
+mode-of (at_flag (objects_flag row n)) = refl
+mode-of (at_flag (dictionary_flag row n)) = refl
 mode-of (at_text (xml_text row) s left test) = refl
 mode-of (at_text (table_text u) s left test) = (use-of u s left test).1
 mode-of (at_raw (byte_array row) s left) = refl

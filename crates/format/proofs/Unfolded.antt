@@ -21,7 +21,7 @@ use Rattle.utf8.specs.Grammar.{valid_text}
 use Rattle.format.specs.Standard.{Tree, array, object, object_vector, dictionary, count, count_pairs, count_entries, is_star}
 use Rattle.format.specs.Unfold.{part, body_of, key_text, class_text, flag_set, home, after, trees_at, pairs_at, entries_at, node, tree_at}
 use Rattle.format.specs.Unfold.{unfolded}
-use Rattle.format.specs.RowTest.{has_class, signed_fits, value_fits, children, fullKey, gives, given, number_writable, body_writable, tested, fine}
+use Rattle.format.specs.RowTest.{has_class, signed_fits, value_fits, children, full_key, gives, given, number_writable, body_writable, tested, fine}
 use Rattle.format.proofs.Tests.{both, clash}
 use Rattle.format.specs.Writable.{IsText, IsKey, IsType, IfGiven, IsRaw, Writable, WritableTrees, WritablePairs, WritableMembers}
 use Rattle.format.specs.Writable.{WritableEntries}
@@ -86,7 +86,7 @@ module _ (R B : List ℕ) (few : rows_in R ≤ rows_most) (small : length B ≤ 
   key-text : (i : ℕ) → i < rows_in R → IsText (key_text R B i)
   key-text i h = record { valid = (rows i h).name; short = short (col R i col_key_begin) (col R i col_key_size) }
 
-  key-filled : (i : ℕ) → i < rows_in R → given R i ≡ fullKey → IsKey (key_text R B i)
+  key-filled : (i : ℕ) → i < rows_in R → given R i ≡ full_key → IsKey (key_text R B i)
   key-filled i h e =
       record { text = key-text i h; filled = by (ltb 0 (col R i col_key_size)) refl (rw e at (rows i h).filled) }
     where
@@ -103,7 +103,7 @@ module _ (R B : List ℕ) (few : rows_in R ≤ rows_most) (small : length B ≤ 
     trees-fit (suc n) l done = absurd (omega arith)
     trees-fit (suc n) l (next {k = k} x w) = (good k x.row, trees-fit n (omega arith) w)
 
-    pairs-fit : (n : ℕ) {c k j : ℕ} → n ≤ c → Walk R p stop k j c → ((i : ℕ) → j ≤ i → i < j + n → gives R p i ≡ fullKey)
+    pairs-fit : (n : ℕ) {c k j : ℕ} → n ≤ c → Walk R p stop k j c → ((i : ℕ) → j ≤ i → i < j + n → gives R p i ≡ full_key)
         → WritablePairs (pairs_at f R B k n)
     unfolding pairs_at
     pairs-fit zero l w a = tt

@@ -1,17 +1,14 @@
 -- What of the loans is used: counts, rows and spans, and those that a mode works with; what was used before more was, is.
-use Prim.Native.Nat.{ℕ, ◌+◌, ◌*◌, ◌-◌, ◌/◌, ◌^◌, ◌≤◌, ◌<◌}
+use Prim.Native.Nat.{ℕ, ◌≤◌}
 use native.Mathlib.Omega.{arith}
 use Rattle.rows.specs.declared.Cursor.{Cursor}
 use Rattle.rows.specs.declared.Span.{Span}
-use Rattle.rows.specs.declared.Key.{Key}
-use Rattle.rows.specs.Memory.{row_width, span_width, trait_width, span}
 use Rattle.wire.specs.U29.{word_more, word_bits}
 use Rattle.wire.specs.Big.{number_more, number_bits}
 use Rattle.utf8.specs.States.{text_broken}
-use Rattle.format.specs.declared.Lent.{Lent}
 use Rattle.format.specs.Decide.{class_of}
 use Rattle.format.specs.Step.{assoc, dynamics, Use, for_string, for_key, for_class, for_external, for_name, for_vector, Text, xml_text, table_text, raw_row}
-use Rattle.format.specs.Step.{Word, integerWord, objectWord, size_word, text_word, Number, doubleBits, dateBits, Flag, raw_flag, objectsFlag, dictionaryFlag}
+use Rattle.format.specs.Step.{Word, integer_word, object_word, size_word, text_word, Number, double_bits, date_bits, Flag, raw_flag, objects_flag, dictionary_flag}
 use Rattle.format.specs.Step.{Mode, at_marker, at_word, at_number, at_flag, at_text, at_raw, astray}
 pub use Rattle.format.specs.Together.{Counts, RowIn, SpanIn, KeyIn, BodyIn, PartIn, UseIn, TextIn, WordIn, NumberIn, FlagIn, ModeIn, PairsUsed, PairsIn}
 
@@ -96,16 +93,16 @@ module _ {c d : Cursor} (g : Grows c d) where
   text-up (table_text u) h = use_up u h
 
   pub word-up : (w : Word) → WordIn w c → WordIn w d
-  word-up (integerWord row) h = row_up row h
-  word-up (objectWord row) h = row_up row h
+  word-up (integer_word row) h = row_up row h
+  word-up (object_word row) h = row_up row h
   word-up (size_word row body) h = row_up row h
   word-up (text_word u) h = use_up u h
 
   pub number_up : (x : Number) → NumberIn x c → NumberIn x d
-  number_up (doubleBits row) h = row_up row h
-  number_up (dateBits row) h = row_up row h
+  number_up (double_bits row) h = row_up row h
+  number_up (date_bits row) h = row_up row h
 
   pub flag_up : (f : Flag) → FlagIn f c → FlagIn f d
   flag_up (raw_flag row w s) (h, k) = (row_up row h, span-up s k)
-  flag_up (objectsFlag row n) h = row_up row h
-  flag_up (dictionaryFlag row n) h = row_up row h
+  flag_up (objects_flag row n) h = row_up row h
+  flag_up (dictionary_flag row n) h = row_up row h

@@ -1,5 +1,5 @@
 -- The public calls: for each, the answer and all that it leaves. The number, told value and place of a refusal stand in the answer as document 01 has them.
-use Rattle.std.specs.Prelude.{true, false, cond, ◌||◌, List, [], ◌∷◌, ℕ, zero, suc, ◌+◌, eqb, replicate}
+use Rattle.std.specs.Prelude.{cond, ◌||◌, List, [], ◌∷◌, ℕ, ◌+◌, eqb, replicate}
 use Rattle.wire.specs.declared.Moment.{Moment}
 use Rattle.rows.specs.Memory.{Memory, fresh}
 use Rattle.format.specs.Refusals as no

@@ -7,7 +7,7 @@ use Rattle.rows.specs.declared.Cursor.{Cursor}
 use Rattle.rows.specs.declared.Key.{Key}
 use Rattle.rows.specs.Kinds.{kind_string, kind_xml_document, kind_xml}
 use Rattle.wire.specs.Octets.{Bytes}
-use Rattle.format.specs.Reading.{Ended, reading, finished, refused, taken}
+use Rattle.format.specs.Reading.{Ended, reading, finished, refused}
 use Rattle.format.specs.Step.{State, over, wait, none, Mode, at_marker}
 use Rattle.format.specs.declared.Answer.{Answer}
 use Rattle.format.specs.declared.Answer.TheVariants.{Waiting, Finished, Refused}
@@ -17,7 +17,6 @@ use Rattle.format.specs.Answers.{Fed, fed, begin_call, feed_call, end_call, Read
 use Rattle.format.specs.declared.Frame.{Frame}
 use Rattle.format.specs.Codes.{status_waiting, status_refused}
 use Rattle.format.specs.Unfold.{unfolded}
-use Rattle.format.specs.Decide.{lost}
 use Rattle.format.specs.Standard.{Tree, encode}
 use Rattle.format.specs.declared.Written.{Written}
 use Rattle.format.specs.declared.Written.TheVariants.{Bytes as Wrote, Unwritten}

@@ -1,6 +1,6 @@
 -- Every decision of a reading: what one byte, with those before it, makes of the loans. Reading and Step only say which comes next.
 -- A decision is a column of refusals in the order in which they come, and then what it gives. It writes at most one loan. Comments name its refusals, 10/n for loan n.
-use Rattle.std.specs.Prelude.{Bool, true, false, cond, not, ◌&&◌, List, [], ◌∷◌, ℕ, zero, suc, ◌+◌, ◌*◌, ◌-◌, ◌/◌, leb, ltb, eqb, length, get_or, set}
+use Rattle.std.specs.Prelude.{Bool, false, cond, not, ◌&&◌, List, [], ◌∷◌, ℕ, ◌+◌, ◌*◌, ◌-◌, ◌/◌, leb, ltb, eqb, length, get_or, set}
 use Rattle.std.proofs.lemmas.List.Edits.{sets}
 use Rattle.rows.specs.declared.Cursor.{Cursor}
 use Rattle.rows.specs.declared.Span.{Span}

@@ -7,7 +7,7 @@ use Rattle.rows.specs.Kinds.{kind_undefined, kind_boolean, kind_integer, kind_da
 use Rattle.utf8.specs.Grammar.{valid_text}
 use Rattle.format.specs.Standard.{is_star}
 use Rattle.format.specs.Unfold.{body_of, key_text}
-use Rattle.format.specs.RowTest.{has_text, has_body, has_class, has_flag, has_number, has_count, has_count2, is_object, children, closes, keyless, fullKey, given}
+use Rattle.format.specs.RowTest.{has_text, has_body, has_class, has_flag, has_number, has_count, has_count2, is_object, children, closes, keyless, full_key, given}
 
 -- a span that isn't in the store: past it, or empty and past 0
 pub data BadSpan (B : List ℕ) (begin size : ℕ) : Type 0 where
@@ -74,7 +74,7 @@ pub data Unwritable (R B : List ℕ) (i : ℕ) : Type 0 where
   long_integer : col R i col_kind ≡ kind_integer → Outside 28 (col R i col_number) → Unwritable R B i
   no_date : col R i col_kind ≡ kind_date → refused_date (col R i col_number) ≡ true → Unwritable R B i
   -- an empty key of an associative or dynamic pair
-  empty_key : given R i ≡ fullKey → col R i col_key_size ≡ 0 → Unwritable R B i
+  empty_key : given R i ≡ full_key → col R i col_key_size ≡ 0 → Unwritable R B i
   -- a given class that is empty, or that is `*`
   empty_class : col R i col_kind ≡ kind_object → col R i col_class_mark ≡ 1 → col R i col_body_size ≡ 0 → Unwritable R B i
   star_class : col R i col_kind ≡ kind_object_vector → col R i col_class_mark ≡ 1 → is_star (body_of R B i) ≡ true → Unwritable R B i

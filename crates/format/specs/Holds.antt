@@ -2,7 +2,7 @@
 use Rattle.std.specs.Prelude.{Bool, cond, ◌&&◌, List, [], ◌∷◌, ℕ, ◌+◌, ◌*◌, leb, eqb, length}
 use Rattle.std.proofs.Math.Option.{Option, none, some}
 use Rattle.rows.specs.Memory.{Memory, row_width, span_width, trait_width}
-use Rattle.format.specs.Standard.{Plain, undefined, null, boolean, integer, double, string, xml_document, xml, byte_array, date, intVector, uintVector, doubleVector}
+use Rattle.format.specs.Standard.{Plain, undefined, null, boolean, integer, double, string, xml_document, xml, byte_array, date, int_vector, uint_vector, double_vector}
 use Rattle.format.specs.Standard.{Tree, plain, array, object, object_vector, dictionary, Trees, nil, cons, Pairs, no_pairs, pair, Entries, no_entries, entry}
 
 -- how many entries of each loan
@@ -51,9 +51,9 @@ of_plain (xml_document t) = an_object (length t)
 of_plain (xml t) = an_object (length t)
 of_plain (byte_array t) = an_object (length t)
 of_plain (date bits) = an_object 0
-of_plain (intVector fixed t) = an_object (length t)
-of_plain (uintVector fixed t) = an_object (length t)
-of_plain (doubleVector fixed t) = an_object (length t)
+of_plain (int_vector fixed t) = an_object (length t)
+of_plain (uint_vector fixed t) = an_object (length t)
+of_plain (double_vector fixed t) = an_object (length t)
 
 unfoldable mutual
   pub of_tree : Tree → Room

@@ -19,7 +19,7 @@ use Rattle.wire.specs.Word.{size_of, shape_of}
 use Rattle.utf8.specs.States.{step_of}
 use Rattle.format.specs.declared.Frame.{Frame}
 use Rattle.format.specs.Decide.{class_of, trait_at, width_of, xml, date, array, bytes, raw, objects, dictionary}
-use Rattle.format.specs.Step.{Use, for_string, for_key, for_class, for_external, for_name, for_vector, table_text, Word, integerWord, objectWord, size_word}
+use Rattle.format.specs.Step.{Use, for_string, for_key, for_class, for_external, for_name, for_vector, table_text, Word, integer_word, object_word, size_word}
 use Rattle.format.specs.Step.{text_word, Mode, at_marker, at_word, at_text, wait, run, begin}
 use Rattle.format.specs.Reading.{finished, refused, ResultOf, ok, bad, Ended}
 use Rattle.format.specs.Standard.{Traits, Tables, Tree}
@@ -32,8 +32,8 @@ use Rattle.format.specs.Refusals as no
 
 -- the bytes of the store that a size word asks for, once it is whole
 abbrev pub asked : Word → Size → ℕ
-asked (integerWord row) z = 0
-asked (objectWord row) z = 0
+asked (integer_word row) z = 0
+asked (object_word row) z = 0
 asked (size_word row body) (Old i) = 0
 asked (size_word row xml) (New n) = n
 asked (size_word row date) (New n) = 0
@@ -58,8 +58,8 @@ NewShape (Inline n y) = Unit
 
 -- a whole word after which a row enters the objects
 abbrev pub Enters : Word → ℕ → Type 0
-Enters (integerWord row) w = ⊥
-Enters (objectWord row) w = NewShape (shape_of w)
+Enters (integer_word row) w = ⊥
+Enters (object_word row) w = NewShape (shape_of w)
 Enters (size_word row body) w = NewSize (size_of w)
 Enters (text_word u) w = ⊥
 

@@ -10,7 +10,7 @@ use Rattle.format.specs.Codes.{purpose_class, purpose_external, purpose_name, pu
 use Rattle.format.specs.Decide.{Width, Body, xml, date, array, bytes, raw, objects, dictionary, four, eight}
 use Rattle.format.specs.Reading.{finished, refused}
 use Rattle.format.specs.Step.{assoc, dynamics, Use, for_string, for_key, for_class, for_external, for_name, for_vector, xml_text, table_text}
-use Rattle.format.specs.Step.{integerWord, objectWord, size_word, text_word, doubleBits, dateBits, raw_flag, objectsFlag, dictionaryFlag}
+use Rattle.format.specs.Step.{integer_word, object_word, size_word, text_word, double_bits, date_bits, raw_flag, objects_flag, dictionary_flag}
 use Rattle.format.specs.Step.{byte_array, raw_vector, Mode, at_marker, at_word, at_number, at_flag, at_text, at_raw, astray, State, wait, over, none}
 use Rattle.format.specs.Numbers.{Numbers, frame_width}
 use Rattle.format.specs.Claims.{Lendable}
@@ -42,17 +42,17 @@ pub data ModeMeant (w : Work) : Mode → Type 0 where
   -- a marker, where the purpose is the key's mark and the span is the key's
   marker : w.mode ≡ mode_marker → ModeMeant w (at_marker (record { mark = w.purpose; begin = w.span.begin; size = w.span.size }))
   -- a word
-  integers : w.mode ≡ mode_word → w.purpose ≡ purpose_integer → ModeMeant w (at_word (integerWord w.row) w.left w.part)
-  object_words : w.mode ≡ mode_word → w.purpose ≡ purpose_object → ModeMeant w (at_word (objectWord w.row) w.left w.part)
+  integers : w.mode ≡ mode_word → w.purpose ≡ purpose_integer → ModeMeant w (at_word (integer_word w.row) w.left w.part)
+  object_words : w.mode ≡ mode_word → w.purpose ≡ purpose_object → ModeMeant w (at_word (object_word w.row) w.left w.part)
   sizes : {b : Body} → w.mode ≡ mode_word → BodyMeant w.purpose b → ModeMeant w (at_word (size_word w.row b) w.left w.part)
   strings : {u : Use} → w.mode ≡ mode_word → UseMeant w u → ModeMeant w (at_word (text_word u) w.left w.part)
   -- eight bytes
-  doubles : w.mode ≡ mode_number → w.purpose ≡ purpose_double → ModeMeant w (at_number (doubleBits w.row) w.left w.part)
-  dates : w.mode ≡ mode_number → w.purpose ≡ purpose_date_bits → ModeMeant w (at_number (dateBits w.row) w.left w.part)
+  doubles : w.mode ≡ mode_number → w.purpose ≡ purpose_double → ModeMeant w (at_number (double_bits w.row) w.left w.part)
+  dates : w.mode ≡ mode_number → w.purpose ≡ purpose_date_bits → ModeMeant w (at_number (date_bits w.row) w.left w.part)
   -- a flag
   raw_flags : {a : Width} → w.mode ≡ mode_flag → BodyMeant w.purpose (raw a) → ModeMeant w (at_flag (raw_flag w.row a w.span))
-  vector_flags : w.mode ≡ mode_flag → w.purpose ≡ purpose_object_vector → ModeMeant w (at_flag (objectsFlag w.row w.count))
-  dictionary_flags : w.mode ≡ mode_flag → w.purpose ≡ purpose_dictionary → ModeMeant w (at_flag (dictionaryFlag w.row w.count))
+  vector_flags : w.mode ≡ mode_flag → w.purpose ≡ purpose_object_vector → ModeMeant w (at_flag (objects_flag w.row w.count))
+  dictionary_flags : w.mode ≡ mode_flag → w.purpose ≡ purpose_dictionary → ModeMeant w (at_flag (dictionary_flag w.row w.count))
   -- a text
   xml_texts : w.mode ≡ mode_text → w.purpose ≡ purpose_xml → ModeMeant w (at_text (xml_text w.row) w.span w.left w.part)
   texts : {u : Use} → w.mode ≡ mode_text → UseMeant w u → ModeMeant w (at_text (table_text u) w.span w.left w.part)

@@ -22,7 +22,7 @@ use Rattle.format.specs.declared.Frame.{Frame}
 use Rattle.format.specs.Decide.{class_of, Body, xml, date, array, bytes, raw, objects, dictionary, four, eight}
 use Rattle.format.specs.Reading.{finished, refused}
 use Rattle.format.specs.Step.{assoc, dynamics, Use, for_string, for_key, for_class, for_external, for_name, for_vector, Text, xml_text, table_text}
-use Rattle.format.specs.Step.{Word, integerWord, objectWord, size_word, text_word, Number, doubleBits, dateBits, Flag, raw_flag, objectsFlag, dictionaryFlag}
+use Rattle.format.specs.Step.{Word, integer_word, object_word, size_word, text_word, Number, double_bits, date_bits, Flag, raw_flag, objects_flag, dictionary_flag}
 use Rattle.format.specs.Step.{Raw, byte_array, raw_vector, raw_row, Mode, at_marker, at_word, at_number, at_flag, at_text, at_raw, astray}
 use Rattle.format.specs.Step.{frame, State, wait, over, none, broken, step}
 
@@ -90,19 +90,19 @@ with_use a w f =
 -- whose word, number, flag, text and raw bytes, by the purpose
 abbrev pub with_word : {A : Type 0} → A → Work → (Word → A) → A
 with_word a w f =
-    cond (eqb w.purpose purpose_integer) (f (integerWord w.row))
-    (cond (eqb w.purpose purpose_object) (f (objectWord w.row))
+    cond (eqb w.purpose purpose_integer) (f (integer_word w.row))
+    (cond (eqb w.purpose purpose_object) (f (object_word w.row))
     (cond (leb w.purpose purpose_dictionary) (with_body a w.purpose (λ b. f (size_word w.row b))) (with_use a w (λ u. f (text_word u)))))
 
 abbrev pub with_number : {A : Type 0} → A → Work → (Number → A) → A
-with_number a w f = cond (eqb w.purpose purpose_double) (f (doubleBits w.row)) (cond (eqb w.purpose purpose_date_bits) (f (dateBits w.row)) a)
+with_number a w f = cond (eqb w.purpose purpose_double) (f (double_bits w.row)) (cond (eqb w.purpose purpose_date_bits) (f (date_bits w.row)) a)
 
 abbrev pub with_flag : {A : Type 0} → A → Work → (Flag → A) → A
 with_flag a w f =
     cond (eqb w.purpose purpose_fours) (f (raw_flag w.row four w.span))
     (cond (eqb w.purpose purpose_eights) (f (raw_flag w.row eight w.span))
-    (cond (eqb w.purpose purpose_object_vector) (f (objectsFlag w.row w.count))
-    (cond (eqb w.purpose purpose_dictionary) (f (dictionaryFlag w.row w.count)) a)))
+    (cond (eqb w.purpose purpose_object_vector) (f (objects_flag w.row w.count))
+    (cond (eqb w.purpose purpose_dictionary) (f (dictionary_flag w.row w.count)) a)))
 
 abbrev pub with_text : {A : Type 0} → A → Work → (Text → A) → A
 with_text a w f = cond (eqb w.purpose purpose_xml) (f (xml_text w.row)) (with_use a w (λ u. f (table_text u)))
@@ -150,15 +150,15 @@ use_work mode (for_vector row count) left part s = work mode purpose_vector_clas
 
 unfoldable pub work_of : Mode → Work
 work_of (at_marker k) = work mode_marker k.mark 0 0 0 (span k.begin k.size) no_trait 0 0
-work_of (at_word (integerWord row) left part) = work mode_word purpose_integer row left part no_span no_trait 0 0
-work_of (at_word (objectWord row) left part) = work mode_word purpose_object row left part no_span no_trait 0 0
+work_of (at_word (integer_word row) left part) = work mode_word purpose_integer row left part no_span no_trait 0 0
+work_of (at_word (object_word row) left part) = work mode_word purpose_object row left part no_span no_trait 0 0
 work_of (at_word (size_word row b) left part) = work mode_word (body_purpose b) row left part no_span no_trait 0 0
 work_of (at_word (text_word u) left part) = use_work mode_word u left part no_span
-work_of (at_number (doubleBits row) left part) = work mode_number purpose_double row left part no_span no_trait 0 0
-work_of (at_number (dateBits row) left part) = work mode_number purpose_date_bits row left part no_span no_trait 0 0
+work_of (at_number (double_bits row) left part) = work mode_number purpose_double row left part no_span no_trait 0 0
+work_of (at_number (date_bits row) left part) = work mode_number purpose_date_bits row left part no_span no_trait 0 0
 work_of (at_flag (raw_flag row w s)) = work mode_flag (body_purpose (raw w)) row 0 0 s no_trait 0 0
-work_of (at_flag (objectsFlag row count)) = work mode_flag purpose_object_vector row 0 0 no_span no_trait count 0
-work_of (at_flag (dictionaryFlag row count)) = work mode_flag purpose_dictionary row 0 0 no_span no_trait count 0
+work_of (at_flag (objects_flag row count)) = work mode_flag purpose_object_vector row 0 0 no_span no_trait count 0
+work_of (at_flag (dictionary_flag row count)) = work mode_flag purpose_dictionary row 0 0 no_span no_trait count 0
 work_of (at_text (xml_text row) s left test) = work mode_text purpose_xml row left test s no_trait 0 0
 work_of (at_text (table_text u) s left test) = use_work mode_text u left test s
 work_of (at_raw (byte_array row) s left) = work mode_raw purpose_byte_array row left 0 s no_trait 0 0
@@ -232,14 +232,14 @@ use_fits c (for_name row t count) = ltb row c.rows && span_used c (class_of t) &
 use_fits c (for_vector row count) = ltb row c.rows
 
 unfoldable pub word_fits : Cursor → Word → Bool
-word_fits c (integerWord row) = ltb row c.rows
-word_fits c (objectWord row) = ltb row c.rows
+word_fits c (integer_word row) = ltb row c.rows
+word_fits c (object_word row) = ltb row c.rows
 word_fits c (size_word row b) = ltb row c.rows
 word_fits c (text_word u) = use_fits c u
 
 abbrev pub number_row : Number → ℕ
-number_row (doubleBits row) = row
-number_row (dateBits row) = row
+number_row (double_bits row) = row
+number_row (date_bits row) = row
 
 -- of a number of so many bytes behind its first, with so many bits each, `left` come after the next one, and those before it gave no more than they can
 abbrev pub part_fits : ℕ → ℕ → ℕ → ℕ → Bool
@@ -255,8 +255,8 @@ mode_fits c (at_marker k) = eqb k.mark 0 || span_used c (span k.begin k.size)
 mode_fits c (at_word w left part) = word_fits c w && part_fits word_more word_bits left part
 mode_fits c (at_number d left part) = ltb (number_row d) c.rows && part_fits number_more number_bits left part
 mode_fits c (at_flag (raw_flag row w s)) = ltb row c.rows && span_used c s
-mode_fits c (at_flag (objectsFlag row count)) = ltb row c.rows
-mode_fits c (at_flag (dictionaryFlag row count)) = ltb row c.rows
+mode_fits c (at_flag (objects_flag row count)) = ltb row c.rows
+mode_fits c (at_flag (dictionary_flag row count)) = ltb row c.rows
 mode_fits c (at_text (xml_text row) s left test) = ltb row c.rows && body_fits c s left && leb test text_broken
 mode_fits c (at_text (table_text u) s left test) = use_fits c u && body_fits c s left && leb test text_broken
 mode_fits c (at_raw r s left) = ltb (raw_row r) c.rows && body_fits c s left
@@ -274,8 +274,8 @@ pairs_used c (for_vector row count) = true
 
 abbrev pub pairs_fit : Cursor → Mode → Bool
 pairs_fit c (at_marker k) = true
-pairs_fit c (at_word (integerWord row) left part) = true
-pairs_fit c (at_word (objectWord row) left part) = true
+pairs_fit c (at_word (integer_word row) left part) = true
+pairs_fit c (at_word (object_word row) left part) = true
 pairs_fit c (at_word (size_word row b) left part) = true
 pairs_fit c (at_word (text_word u) left part) = pairs_used c u
 pairs_fit c (at_number d left part) = true

@@ -1,5 +1,5 @@
 -- The refusals: document 01's numbers, and for each what it tells. Named through the module: `no.too_deep`.
-use Rattle.std.specs.Prelude.{Bool, true, false, cond, ◌&&◌, ◌||◌, ℕ, ◌^◌, leb, ltb, eqb}
+use Rattle.std.specs.Prelude.{Bool, cond, ◌&&◌, ◌||◌, ℕ, ◌^◌, leb, ltb, eqb}
 use Rattle.wire.specs.Date.{refused_date}
 use Rattle.rows.specs.Memory.{message_most, objects_most, loan_rows, loan_names}
 
@@ -68,61 +68,61 @@ pub data Refusal : Type 0 where
   faulty_loan : (loan : ℕ) → Refusal
   ended_bytes : (place : ℕ) → Refusal
   unknown_marker : (byte place : ℕ) → Refusal
-  missingEntry unfinishedObject : (index place : ℕ) → Refusal
+  missing_entry unfinished_object : (index place : ℕ) → Refusal
   external_class : (place : ℕ) → Refusal
   refused_bits : (bits place : ℕ) → Refusal
-  invalidText deepValue : (place : ℕ) → Refusal
+  invalid_text deep_value : (place : ℕ) → Refusal
   full_loan : (loan place : ℕ) → Refusal
-  longMessage lostState : Refusal
-  malformedRow unwritableRow : (row : ℕ) → Refusal
+  long_message lost_state : Refusal
+  malformed_row unwritable_row : (row : ℕ) → Refusal
 
 abbrev pub number_of : Refusal → ℕ
 number_of (faulty_loan loan) = bad_loan
 number_of (ended_bytes place) = unexpected_end
 number_of (unknown_marker b place) = bad_marker
-number_of (missingEntry i place) = no_entry
-number_of (unfinishedObject i place) = open_object
+number_of (missing_entry i place) = no_entry
+number_of (unfinished_object i place) = open_object
 number_of (external_class place) = externalizable
 number_of (refused_bits bits place) = bad_date
-number_of (invalidText place) = bad_text
-number_of (deepValue place) = too_deep
+number_of (invalid_text place) = bad_text
+number_of (deep_value place) = too_deep
 number_of (full_loan loan place) = no_room
-number_of longMessage = too_long
-number_of lostState = lost
-number_of (malformedRow row) = malformed
-number_of (unwritableRow row) = unwritable
+number_of long_message = too_long
+number_of lost_state = lost
+number_of (malformed_row row) = malformed
+number_of (unwritable_row row) = unwritable
 
 abbrev pub told_of : Refusal → ℕ
 told_of (faulty_loan loan) = loan
 told_of (ended_bytes place) = 0
 told_of (unknown_marker b place) = b
-told_of (missingEntry i place) = i
-told_of (unfinishedObject i place) = i
+told_of (missing_entry i place) = i
+told_of (unfinished_object i place) = i
 told_of (external_class place) = 0
 told_of (refused_bits bits place) = bits
-told_of (invalidText place) = 0
-told_of (deepValue place) = 0
+told_of (invalid_text place) = 0
+told_of (deep_value place) = 0
 told_of (full_loan loan place) = loan
-told_of longMessage = 0
-told_of lostState = 0
-told_of (malformedRow row) = row
-told_of (unwritableRow row) = row
+told_of long_message = 0
+told_of lost_state = 0
+told_of (malformed_row row) = row
+told_of (unwritable_row row) = row
 
 abbrev pub place_of : Refusal → ℕ
 place_of (faulty_loan loan) = 0
 place_of (ended_bytes place) = place
 place_of (unknown_marker b place) = place
-place_of (missingEntry i place) = place
-place_of (unfinishedObject i place) = place
+place_of (missing_entry i place) = place
+place_of (unfinished_object i place) = place
 place_of (external_class place) = place
 place_of (refused_bits bits place) = place
-place_of (invalidText place) = place
-place_of (deepValue place) = place
+place_of (invalid_text place) = place
+place_of (deep_value place) = place
 place_of (full_loan loan place) = place
-place_of longMessage = message_most
-place_of lostState = 0
-place_of (malformedRow row) = 0
-place_of (unwritableRow row) = 0
+place_of long_message = message_most
+place_of lost_state = 0
+place_of (malformed_row row) = 0
+place_of (unwritable_row row) = 0
 
 -- ---- what a reading can say
 

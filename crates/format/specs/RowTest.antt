@@ -1,5 +1,5 @@
 -- Refusals 13 and 14: which rows are malformed, and which can't be written. The rows are all that there are; the store may be larger than what they use.
-use Rattle.std.specs.Prelude.{Bool, true, false, cond, not, ◌&&◌, ◌||◌, List, [], ◌∷◌, ℕ, zero, suc, ◌+◌, ◌*◌, ◌-◌, ◌^◌, leb, ltb, eqb, length}
+use Rattle.std.specs.Prelude.{Bool, true, false, cond, not, ◌&&◌, ◌||◌, List, ℕ, zero, suc, ◌+◌, ◌*◌, ◌-◌, ◌^◌, leb, ltb, eqb, length}
 use Rattle.std.proofs.Math.Option.{Option, none, some}
 use Rattle.wire.specs.Date.{refused_date}
 use Rattle.rows.specs.Memory.{col_kind, col_key_mark, col_key_begin, col_key_size, col_body_begin, col_body_size, col_class_mark, col_flag, col_number, col_count, rows_in, col}
@@ -92,13 +92,13 @@ closes R stop k (suc n) = ltb k (col R k col_end) && leb (col R k col_end) stop 
 
 -- what a row is given: no key, a key, a key that is not empty
 pub data Given : Type 0 where
-  keyless anyKey fullKey : Given
+  keyless any_key full_key : Given
 
 -- by row p, to its child number j
 unfoldable pub gives : List ℕ → ℕ → ℕ → Given
 gives R p j =
-    cond (eqb (col R p col_kind) kind_array) (cond (ltb j (col R p col_count)) fullKey keyless)
-    (cond (eqb (col R p col_kind) kind_object) (cond (ltb j (col R p col_count)) anyKey fullKey) keyless)
+    cond (eqb (col R p col_kind) kind_array) (cond (ltb j (col R p col_count)) full_key keyless)
+    (cond (eqb (col R p col_kind) kind_object) (cond (ltb j (col R p col_count)) any_key full_key) keyless)
 
 -- the parent of row i among the first p rows: the last of them whose end is past it
 unfoldable pub parent_in : List ℕ → ℕ → ℕ → Option ℕ
@@ -122,14 +122,14 @@ given R i = given_by R i (parent_in R i i)
 -- the key's mark that it asks
 abbrev pub mark_of : Given → ℕ
 mark_of keyless = 0
-mark_of anyKey = 1
-mark_of fullKey = 1
+mark_of any_key = 1
+mark_of full_key = 1
 
 -- whether it asks a key that is not empty
 abbrev pub is_filled : Given → Bool
 is_filled keyless = false
-is_filled anyKey = false
-is_filled fullKey = true
+is_filled any_key = false
+is_filled full_key = true
 
 -- ---- the refusals
 

@@ -15,7 +15,7 @@ use Rattle.utf8.specs.Grammar.{valid_text}
 use Rattle.format.specs.Refusals as no
 use Rattle.format.specs.Bodies as k
 use Rattle.format.specs.Bodies.{Kind, Body, width_of}
-use Rattle.format.specs.Readers.{ResultOf, ReaderOf, ok, bad, bind, ◌>>=◌, ret}
+use Rattle.format.specs.Readers.{ResultOf, ReaderOf, ok, bad, ◌>>=◌, ret}
 
 -- ---- trees
 
@@ -26,7 +26,7 @@ pub data Plain : Type 0 where
   integer : ℤ → Plain
   double date : ℕ → Plain  -- the 64 bits
   string xml_document xml byte_array : List ℕ → Plain
-  intVector uintVector doubleVector : Bool → List ℕ → Plain
+  int_vector uint_vector double_vector : Bool → List ℕ → Plain
 
 -- a value [3.11, 3.12, 3.15, 3.16]
 mutual
@@ -279,7 +279,7 @@ abbrev pub xml_of : ℕ → List ℕ → Plain
 xml_of b t = cond (eqb b 0x07) (xml_document t) (xml t)
 
 abbrev pub vector_of : ℕ → Bool → List ℕ → Plain
-vector_of b fixed t = cond (eqb b 0x0D) (intVector fixed t) (cond (eqb b 0x0E) (uintVector fixed t) (doubleVector fixed t))
+vector_of b fixed t = cond (eqb b 0x0D) (int_vector fixed t) (cond (eqb b 0x0E) (uint_vector fixed t) (double_vector fixed t))
 
 -- what a size word n of marker b is followed by: texts and bytes [3.9, 3.13, 3.14], a date's eight bytes [3.10], an array's pairs and values [3.11], a vector's
 -- fixed flag, which any byte but 0 sets (scope), and entries [3.15], a dictionary's weak flag, which only 1 sets (scope), and entries [3.16]
@@ -428,9 +428,9 @@ encode_plain (xml_document t) = 0x07 ∷ text_bytes t
 encode_plain (date bits) = 0x08 ∷ 0x01 ∷ bytes_of 8 bits
 encode_plain (xml t) = 0x0B ∷ text_bytes t
 encode_plain (byte_array t) = 0x0C ∷ text_bytes t
-encode_plain (intVector fixed t) = 0x0D ∷ size_bytes (length t / 4) ++ flag_byte fixed ∷ t
-encode_plain (uintVector fixed t) = 0x0E ∷ size_bytes (length t / 4) ++ flag_byte fixed ∷ t
-encode_plain (doubleVector fixed t) = 0x0F ∷ size_bytes (length t / 8) ++ flag_byte fixed ∷ t
+encode_plain (int_vector fixed t) = 0x0D ∷ size_bytes (length t / 4) ++ flag_byte fixed ∷ t
+encode_plain (uint_vector fixed t) = 0x0E ∷ size_bytes (length t / 4) ++ flag_byte fixed ∷ t
+encode_plain (double_vector fixed t) = 0x0F ∷ size_bytes (length t / 8) ++ flag_byte fixed ∷ t
 
 -- what stands before the pairs of an array, and before the values of the others
 unfoldable pub array_head : Trees → List ℕ

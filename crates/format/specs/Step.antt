@@ -1,6 +1,6 @@
 -- The reading byte by byte: what a state waits for, and what the next byte makes of it. The decisions are Decide's, one waiting point at a time:
 -- `act` by the mode; then `worded`, `number_done`, `flag_done`, `text_done`; then `had`, `opened`; then `onward` and `pop`.
-use Rattle.std.specs.Prelude.{Bool, true, false, cond, List, [], ◌∷◌, ℕ, zero, suc, ◌+◌, ◌*◌, ◌-◌, leb, eqb, length}
+use Rattle.std.specs.Prelude.{Bool, cond, List, [], ◌∷◌, ℕ, zero, suc, ◌+◌, ◌*◌, ◌-◌, leb, eqb, length}
 use Rattle.rows.specs.declared.Cursor.{Cursor}
 use Rattle.rows.specs.declared.Span.{Span}
 use Rattle.rows.specs.declared.Key.{Key}
@@ -19,7 +19,7 @@ use Rattle.wire.specs.U29.{part_of, word_more}
 use Rattle.wire.specs.Word.{size_of, shape_of}
 use Rattle.wire.specs.Big.{digit_of, number_more}
 use Rattle.utf8.specs.States.{step_of}
-use Rattle.format.specs.Decide.{Out, stop, give, lost, Decision, looking, on_rows, on_store, on_strings, on_objects, on_traits, on_names, Width}
+use Rattle.format.specs.Decide.{Out, stop, give, Decision, looking, on_rows, on_store, on_strings, on_objects, on_traits, on_names, Width}
 use Rattle.format.specs.Decide.{width_of, Body, xml, date, array, bytes, raw, objects, dictionary, Kind, leaf, integer, double, string, object, sized}
 use Rattle.format.specs.Decide.{kind_of, marker, closed, numbered, integer_end, date_end, bodied, object_class, vector_class, fixed, weak, flagged}
 use Rattle.format.specs.Decide.{counted, key_end, grown, old_text, reserved, stored, judged, text_end, entered, referred, old_trait, trait_of, named, trait_end}
@@ -91,18 +91,18 @@ pub data Text : Type 0 where
 
 -- whose word it is
 pub data Word : Type 0 where
-  integerWord objectWord : (row : ℕ) → Word
+  integer_word object_word : (row : ℕ) → Word
   size_word : (row : ℕ) → Body → Word
   text_word : Use → Word
 
 -- whose eight bytes they are
 pub data Number : Type 0 where
-  doubleBits dateBits : (row : ℕ) → Number
+  double_bits date_bits : (row : ℕ) → Number
 
 -- whose flag it is: a raw vector's, with its span; an object vector's or a dictionary's, of so many entries
 pub data Flag : Type 0 where
   raw_flag : (row : ℕ) → Width → Span → Flag
-  objectsFlag dictionaryFlag : (row entries : ℕ) → Flag
+  objects_flag dictionary_flag : (row entries : ℕ) → Flag
 
 -- whose raw bytes they are: a byte array's; a vector's
 pub data Raw : Type 0 where
@@ -245,12 +245,12 @@ filling ts r s (suc n) c m = wait (at_raw r s n) ts c m
 
 unfoldable pub opened : List Frame → ℕ → Body → ℕ → Cursor → Memory → State
 opened ts row xml n c m = roomy row n c m (λ s. texting ts row s n)
-opened ts row date n c m = wait (at_number (dateBits row) number_more 0) ts c m
+opened ts row date n c m = wait (at_number (date_bits row) number_more 0) ts c m
 opened ts row array n c m = wait (at_string (for_key (assoc row n 0))) ts c m
 opened ts row bytes n c m = roomy row n c m (λ s. filling ts (byte_array row) s n)
 opened ts row (raw w) n c m = roomy row (n * width_of w) c m (λ s. wait (at_flag (raw_flag row w s)) ts)
-opened ts row objects n c m = wait (at_flag (objectsFlag row n)) ts c m
-opened ts row dictionary n c m = wait (at_flag (dictionaryFlag row n)) ts c m
+opened ts row objects n c m = wait (at_flag (objects_flag row n)) ts c m
+opened ts row dictionary n c m = wait (at_flag (dictionary_flag row n)) ts c m
 
 unfoldable pub body_sized : List Frame → ℕ → Body → Size → Cursor → Memory → State
 body_sized ts row body (Old i) c m = ends ts (λ m. on_rows (referred row i m.objects) m) c m
@@ -266,21 +266,21 @@ object_shaped ts row (Inline n y) c m = on (on_objects (entered row) m c) m (λ 
 
 -- a word is whole
 unfoldable pub worded : List Frame → Word → ℕ → Cursor → Memory → State
-worded ts (integerWord row) w c m = ends ts (on_rows (integer_end row w)) c m
-worded ts (objectWord row) w c m = object_shaped ts row (shape_of w) c m
+worded ts (integer_word row) w c m = ends ts (on_rows (integer_end row w)) c m
+worded ts (object_word row) w c m = object_shaped ts row (shape_of w) c m
 worded ts (size_word row body) w c m = body_sized ts row body (size_of w) c m
 worded ts (text_word u) w c m = string_sized ts u (size_of w) c m
 
 -- eight bytes are whole
 unfoldable pub number_done : List Frame → Number → ℕ → Cursor → Memory → State
-number_done ts (doubleBits row) bits c m = ends ts (on_rows (numbered row bits)) c m
-number_done ts (dateBits row) bits c m = ends ts (on_rows (date_end row bits)) c m
+number_done ts (double_bits row) bits c m = ends ts (on_rows (numbered row bits)) c m
+number_done ts (date_bits row) bits c m = ends ts (on_rows (date_end row bits)) c m
 
 -- a flag is there
 unfoldable pub flag_done : List Frame → Flag → ℕ → Cursor → Memory → State
 flag_done ts (raw_flag row w s) b c m = on (on_rows (flagged row (fixed b)) m c) m (λ x. filling ts (raw_vector row w) s s.size)
-flag_done ts (objectsFlag row n) b c m = on (on_rows (flagged row (fixed b)) m c) m (λ x. wait (at_string (for_vector row n)) ts)
-flag_done ts (dictionaryFlag row n) b c m = on (on_rows (flagged row (weak b)) m c) m (λ x. onward ts (keys_of row n 0))
+flag_done ts (objects_flag row n) b c m = on (on_rows (flagged row (fixed b)) m c) m (λ x. wait (at_string (for_vector row n)) ts)
+flag_done ts (dictionary_flag row n) b c m = on (on_rows (flagged row (weak b)) m c) m (λ x. onward ts (keys_of row n 0))
 
 -- a raw byte is stored, so many left after it
 unfoldable pub raw_grown : Raw → Span → ℕ → Decision Unit
@@ -291,10 +291,10 @@ raw_grown (raw_vector row w) s n = on_rows (grown row w s n)
 
 unfoldable pub begun : List Frame → ℕ → Kind → Cursor → Memory → State
 begun ts row leaf c m = pop ts c m
-begun ts row integer c m = wait (at_word (integerWord row) word_more 0) ts c m
-begun ts row double c m = wait (at_number (doubleBits row) number_more 0) ts c m
+begun ts row integer c m = wait (at_word (integer_word row) word_more 0) ts c m
+begun ts row double c m = wait (at_number (double_bits row) number_more 0) ts c m
 begun ts row string c m = wait (at_string (for_string row)) ts c m
-begun ts row object c m = wait (at_word (objectWord row) word_more 0) ts c m
+begun ts row object c m = wait (at_word (object_word row) word_more 0) ts c m
 begun ts row (sized body) c m = wait (at_word (size_word row body) word_more 0) ts c m
 
 -- ---- the step

@@ -14,7 +14,7 @@ use Rattle.format.specs.declared.Frame.{Frame}
 use Rattle.format.specs.Codes.{task_members}
 use Rattle.format.specs.Decide.{trait_at, names_to}
 use Rattle.format.specs.Reading.{finished, taken}
-use Rattle.format.specs.Step.{for_name, Word, integerWord, objectWord, size_word, text_word, Use, Mode, at_word, over, pop, act}
+use Rattle.format.specs.Step.{for_name, Word, integer_word, object_word, size_word, text_word, Use, Mode, at_word, over, pop, act}
 use Rattle.format.specs.Limits.{There}
 use Rattle.format.specs.Together.{SpanIn, TraitIn, ObjectIn, NameIn, FrameIn}
 
@@ -34,8 +34,8 @@ pub data FrameStrays : List Frame → Cursor → Memory → Type 0 where
 
 -- a whole word that is a reference to object i
 abbrev pub Refers : Word → ℕ → ℕ → Type 0
-Refers (integerWord row) w i = ⊥
-Refers (objectWord row) w i = shape_of w ≡ Object i
+Refers (integer_word row) w i = ⊥
+Refers (object_word row) w i = shape_of w ≡ Object i
 Refers (size_word row body) w i = size_of w ≡ Old i
 Refers (text_word u) w i = ⊥
 
@@ -51,11 +51,11 @@ pub data Strays (b : ℕ) : Mode → List Frame → Cursor → Memory → Type 0
       → (ObjectIn i c m → ⊥) → Strays b (at_word x left part) ts c m
   -- a trait by number, of an object that has room
   trait_entry : {row left part w i : ℕ} {ts : List Frame} {c : Cursor} {m : Memory} → part_of left part b ≡ Whole w → shape_of w ≡ Known i
-      → c.objects < length m.objects → i < c.traits → (TraitIn (trait_at m.traits i) c → ⊥) → Strays b (at_word (objectWord row) left part) ts c m
+      → c.objects < length m.objects → i < c.traits → (TraitIn (trait_at m.traits i) c → ⊥) → Strays b (at_word (object_word row) left part) ts c m
   -- the name of the first sealed member of such a trait
   entry_name : {row left part w i : ℕ} {ts : List Frame} {c : Cursor} {m : Memory} → part_of left part b ≡ Whole w → shape_of w ≡ Known i
       → c.objects < length m.objects → i < c.traits → TraitIn (trait_at m.traits i) c → 0 < (trait_at m.traits i).count
-      → (NameIn (trait_at m.traits i).first c m → ⊥) → Strays b (at_word (objectWord row) left part) ts c m
+      → (NameIn (trait_at m.traits i).first c m → ⊥) → Strays b (at_word (object_word row) left part) ts c m
   -- a trait whose last name is there and has room among the names
   new_trait : {x : Mode} {row : ℕ} {t : Trait} {ts : List Frame} {c : Cursor} {m : Memory} → There c m b x (for_name row t 0) → c.names < length m.names / span_width
       → (TraitIn t (names_to c (c.names + 1)) → ⊥) → Strays b x ts c m

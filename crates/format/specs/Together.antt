@@ -11,8 +11,8 @@ use Rattle.utf8.specs.States.{text_broken}
 use Rattle.format.specs.declared.Lent.{Lent}
 use Rattle.format.specs.Decide.{class_of, trait_at}
 use Rattle.format.specs.Step.{assoc, dynamics, Use, for_string, for_key, for_class, for_external, for_name, for_vector, Text, xml_text, table_text, raw_row}
-use Rattle.format.specs.Step.{Word, integerWord, objectWord, size_word, text_word, Number, doubleBits, dateBits, Flag, raw_flag, objectsFlag}
-use Rattle.format.specs.Step.{dictionaryFlag, Mode, at_marker, at_word, at_number, at_flag, at_text, at_raw, astray, begin}
+use Rattle.format.specs.Step.{Word, integer_word, object_word, size_word, text_word, Number, double_bits, date_bits, Flag, raw_flag, objects_flag}
+use Rattle.format.specs.Step.{dictionary_flag, Mode, at_marker, at_word, at_number, at_flag, at_text, at_raw, astray}
 use Rattle.format.specs.declared.Frame.{Frame}
 use Rattle.format.specs.Numbers.{lent_of}
 use Rattle.format.specs.Codes.{task_pairs, task_dynamics, task_dense, task_vector, task_members, task_keys, task_values}
@@ -56,19 +56,19 @@ TextIn (xml_text row) c = RowIn row c
 TextIn (table_text u) c = UseIn u c
 
 abbrev pub WordIn : Word → Cursor → Type 0
-WordIn (integerWord row) c = RowIn row c
-WordIn (objectWord row) c = RowIn row c
+WordIn (integer_word row) c = RowIn row c
+WordIn (object_word row) c = RowIn row c
 WordIn (size_word row body) c = RowIn row c
 WordIn (text_word u) c = UseIn u c
 
 abbrev pub NumberIn : Number → Cursor → Type 0
-NumberIn (doubleBits row) c = RowIn row c
-NumberIn (dateBits row) c = RowIn row c
+NumberIn (double_bits row) c = RowIn row c
+NumberIn (date_bits row) c = RowIn row c
 
 abbrev pub FlagIn : Flag → Cursor → Type 0
 FlagIn (raw_flag row w s) c = RowIn row c × SpanIn s c
-FlagIn (objectsFlag row n) c = RowIn row c
-FlagIn (dictionaryFlag row n) c = RowIn row c
+FlagIn (objects_flag row n) c = RowIn row c
+FlagIn (dictionary_flag row n) c = RowIn row c
 
 abbrev pub ModeIn : Mode → Cursor → Type 0
 ModeIn (at_marker k) c = KeyIn k c
@@ -91,8 +91,8 @@ PairsUsed (for_vector row n) c = Unit
 
 abbrev pub PairsIn : Mode → Cursor → Type 0
 PairsIn (at_marker k) c = Unit
-PairsIn (at_word (integerWord row) left part) c = Unit
-PairsIn (at_word (objectWord row) left part) c = Unit
+PairsIn (at_word (integer_word row) left part) c = Unit
+PairsIn (at_word (object_word row) left part) c = Unit
 PairsIn (at_word (size_word row body) left part) c = Unit
 PairsIn (at_word (text_word u) left part) c = PairsUsed u c
 PairsIn (at_number d left part) c = Unit
@@ -188,8 +188,8 @@ TextMade (table_text u) c = UseMade u c
 
 -- of a word
 abbrev pub WordMade : Word → Cursor → Type 0
-WordMade (integerWord row) c = Unit
-WordMade (objectWord row) c = Unit
+WordMade (integer_word row) c = Unit
+WordMade (object_word row) c = Unit
 WordMade (size_word row body) c = Unit
 WordMade (text_word u) c = UseMade u c
 

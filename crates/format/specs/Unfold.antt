@@ -1,12 +1,12 @@
 -- The unfolded tree of a row: each reference is its target's whole tree. Total on any rows; it means something on rows that pass 13.
-use Rattle.std.specs.Prelude.{Bool, true, false, cond, not, List, [], ◌∷◌, ℕ, zero, suc, ◌+◌, eqb, get_or, take, drop}
+use Rattle.std.specs.Prelude.{Bool, cond, not, List, [], ◌∷◌, ℕ, zero, suc, ◌+◌, eqb, get_or, take, drop}
 use Rattle.std.proofs.Math.Option.{Option, none, some}
 use Rattle.rows.specs.Memory.{col_kind, col_key_begin, col_key_size, col_body_begin, col_body_size, col_class_mark, col_flag, col_number, col_count, col_count2}
 use Rattle.rows.specs.Memory.{col_end, rows_in, col}
 use Rattle.rows.specs.Kinds.{kind_reference}
 use Rattle.wire.specs.Sign.{of_column}
-use Rattle.format.specs.Standard.{undefined, null, boolean, integer, double, string, xml_document, xml, byte_array, date, intVector, uintVector}
-use Rattle.format.specs.Standard.{doubleVector, Tree, plain, array, object, object_vector, dictionary, Trees, nil, cons, Pairs, no_pairs, pair, Entries}
+use Rattle.format.specs.Standard.{undefined, null, boolean, integer, double, string, xml_document, xml, byte_array, date, int_vector, uint_vector}
+use Rattle.format.specs.Standard.{double_vector, Tree, plain, array, object, object_vector, dictionary, Trees, nil, cons, Pairs, no_pairs, pair, Entries}
 use Rattle.format.specs.Standard.{no_entries, entry}
 
 -- a part of the store, as far as it is there
@@ -66,9 +66,9 @@ node f R B i =
     ∷ object (class_text R B i) (pairs_at f R B (i + 1) (col R i col_count)) (pairs_at f R B (after R (i + 1) (col R i col_count)) (col R i col_count2))
     ∷ plain (xml (body_of R B i))
     ∷ plain (byte_array (body_of R B i))
-    ∷ plain (intVector (flag_set R i) (body_of R B i))
-    ∷ plain (uintVector (flag_set R i) (body_of R B i))
-    ∷ plain (doubleVector (flag_set R i) (body_of R B i))
+    ∷ plain (int_vector (flag_set R i) (body_of R B i))
+    ∷ plain (uint_vector (flag_set R i) (body_of R B i))
+    ∷ plain (double_vector (flag_set R i) (body_of R B i))
     ∷ object_vector (flag_set R i) (class_text R B i) (trees_at f R (i + 1) (col R i col_count))
     ∷ dictionary (flag_set R i) (entries_at f R (i + 1) (col R i col_count))
     ∷ []) (col R i col_kind) (plain null)

@@ -4,8 +4,8 @@ use Rattle.std.proofs.Math.Option.{Option, none, some}
 use Rattle.std.specs.Int.Signed.{mag}
 use Rattle.wire.specs.Date.{refused_date}
 use Rattle.utf8.specs.Grammar.{valid_text}
-use Rattle.format.specs.Standard.{Plain, undefined, null, boolean, integer, double, string, xml_document, xml, byte_array, date, intVector, uintVector}
-use Rattle.format.specs.Standard.{doubleVector, Tree, plain, array, object, object_vector, dictionary, Trees, nil, cons, Pairs, no_pairs, pair}
+use Rattle.format.specs.Standard.{Plain, undefined, null, boolean, integer, double, string, xml_document, xml, byte_array, date, int_vector, uint_vector}
+use Rattle.format.specs.Standard.{double_vector, Tree, plain, array, object, object_vector, dictionary, Trees, nil, cons, Pairs, no_pairs, pair}
 use Rattle.format.specs.Standard.{Entries, no_entries, entry, count, count_pairs, count_entries}
 
 -- a text, valid and not too long
@@ -44,9 +44,9 @@ WritablePlain (xml_document t) = IsText t
 WritablePlain (xml t) = IsText t
 WritablePlain (byte_array t) = length t < 2 ^ 28
 WritablePlain (date bits) = (bits < 2 ^ 64) × (refused_date bits ≡ false)
-WritablePlain (intVector fixed t) = IsRaw 4 t
-WritablePlain (uintVector fixed t) = IsRaw 4 t
-WritablePlain (doubleVector fixed t) = IsRaw 8 t
+WritablePlain (int_vector fixed t) = IsRaw 4 t
+WritablePlain (uint_vector fixed t) = IsRaw 4 t
+WritablePlain (double_vector fixed t) = IsRaw 8 t
 
 abbrev mutual
   pub Writable : Tree → Type 0

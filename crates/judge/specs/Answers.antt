@@ -1,5 +1,5 @@
 -- What the code answers, as the definition has it.
-use Rattle.format.specs.RowTest.{Given, keyless, anyKey, fullKey, Tested, fine, faulty}
+use Rattle.format.specs.RowTest.{Given, keyless, any_key, full_key, Tested, fine, faulty}
 use Rattle.judge.specs.declared.Judged.{Judged}
 use Rattle.judge.specs.declared.Judged.TheVariants as judged
 use Rattle.judge.specs.declared.Gift.{Gift}
@@ -11,5 +11,5 @@ judged_of (judged.Faulty n row) = faulty n row
 
 abbrev pub given_of : Gift → Given
 given_of gift.Keyless = keyless
-given_of gift.Keyed = anyKey
-given_of gift.Filled = fullKey
+given_of gift.Keyed = any_key
+given_of gift.Filled = full_key

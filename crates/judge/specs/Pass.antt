@@ -5,8 +5,8 @@ use Rattle.rows.specs.Memory.{span, col_kind, col_key_mark, col_key_begin, col_k
 use Rattle.rows.specs.Kinds.{kind_undefined, kind_array, kind_object, kind_reference}
 use Rattle.utf8.specs.Grammar.{valid_text}
 use Rattle.format.specs.Unfold.{key_text}
-use Rattle.format.specs.RowTest.{has_text, has_body, has_class, is_object, span_fits, mark_fits, meant, columns_fit, value_fits, children, Given, keyless, anyKey}
-use Rattle.format.specs.RowTest.{fullKey, mark_of, is_filled, number_writable, body_writable, Tested, fine, faulty}
+use Rattle.format.specs.RowTest.{has_text, has_body, has_class, is_object, span_fits, mark_fits, meant, columns_fit, value_fits, children, Given, keyless, any_key}
+use Rattle.format.specs.RowTest.{full_key, mark_of, is_filled, number_writable, body_writable, Tested, fine, faulty}
 use Rattle.judge.specs.declared.Walked.{Walked}
 use Rattle.judge.specs.declared.Walked.TheVariants.{Closed, Broken}
 
@@ -54,7 +54,7 @@ capped most n = cond (leb n most) n most
 -- what a row of this kind and count gives to its child number j
 unfoldable pub gives_by : ℕ → ℕ → ℕ → Given
 gives_by kind count j =
-    cond (eqb kind kind_array) (cond (ltb j count) fullKey keyless) (cond (eqb kind kind_object) (cond (ltb j count) anyKey fullKey) keyless)
+    cond (eqb kind kind_array) (cond (ltb j count) full_key keyless) (cond (eqb kind kind_object) (cond (ltb j count) any_key full_key) keyless)
 
 -- row k has another mark than it is given
 unfoldable pub is_wrong : List ℕ → ℕ → Given → Bool

@@ -19,7 +19,7 @@ use Rattle.format.specs.Decide.{Body, Width, width_of}
 use Rattle.format.specs.Refusals as no
 use Rattle.format.specs.Reading.{ok, bad, bind, ◌>>=◌, ret}
 use Rattle.format.specs.Standard.{Plain, undefined, null, boolean, integer, double, string, xml_document, xml, byte_array, date}
-use Rattle.format.specs.Standard.{intVector, uintVector, doubleVector, Tree, plain, Tables, Std, fail, change, byte, bytes, word, chars}
+use Rattle.format.specs.Standard.{int_vector, uint_vector, double_vector, Tree, plain, Tables, Std, fail, change, byte, bytes, word, chars}
 use Rattle.format.specs.Standard.{kept_text, follows}
 use Rattle.format.specs.Standard.{text_of, text}
 use Rattle.format.specs.Standard.{opened, shut, vector_of, new_of, sized_of, marked, value, size_bytes, text_bytes, flag_byte, encode_plain}
@@ -157,15 +157,15 @@ reads_plain (xml t) h f d =
     reads-marked f d 0x0B refl (reads_sized (value f d) f 0x0B k.xml (length t) h.short (reads-last _ (reads-chars t h.valid) reads-ret))
 reads_plain (byte_array t) h f d =
     reads-marked f d 0x0C refl (reads_sized (value f d) f 0x0C k.bytes (length t) h (reads-last _ (reads_bytes t) reads-ret))
-reads_plain (intVector fixed t) h f d =
+reads_plain (int_vector fixed t) h f d =
     let e : length t / 4 ≡ h.entries = omega (arith, h.size) in
     reads-marked f d 0x0D refl
     (rw e (reads_sized (value f d) f 0x0D (k.raw k.four) h.entries h.short (reads-raw (value f d) f 0x0D k.four fixed t h)))
-reads_plain (uintVector fixed t) h f d =
+reads_plain (uint_vector fixed t) h f d =
     let e : length t / 4 ≡ h.entries = omega (arith, h.size) in
     reads-marked f d 0x0E refl
     (rw e (reads_sized (value f d) f 0x0E (k.raw k.four) h.entries h.short (reads-raw (value f d) f 0x0E k.four fixed t h)))
-reads_plain (doubleVector fixed t) h f d =
+reads_plain (double_vector fixed t) h f d =
     let e : length t / 8 ≡ h.entries = omega (arith, h.size) in
     reads-marked f d 0x0F refl
     (rw e (reads_sized (value f d) f 0x0F (k.raw k.eight) h.entries h.short (reads-raw (value f d) f 0x0F k.eight fixed t h)))

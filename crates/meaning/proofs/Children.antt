@@ -12,9 +12,9 @@ use Rattle.rows.specs.declared.Key.{Key}
 use Rattle.rows.specs.Memory.{Memory, no_key, put}
 use Rattle.format.specs.Decide.{on_rows, looking, counted, sealed_key}
 use Rattle.format.specs.Reading.{◌>>=◌, Reader, Values, decided, by, entries, pair, pairs_by, pairs, couple}
-use Rattle.format.specs.RowTest.{Given, keyless, anyKey, fullKey}
+use Rattle.format.specs.RowTest.{Given, keyless, any_key, full_key}
 use Rattle.format.proofs.Memories.{with_rows}
-use Rattle.meaning.proofs.Ground.{Land, at, Done, Ext, ext_same, ext_trans, land_of}
+use Rattle.meaning.proofs.Ground.{Land, Done, Ext, ext_same, ext_trans, land_of}
 use Rattle.meaning.proofs.Lands.{Valid, Meets, bare, named, long, Run, ends, run-ext, run_more}
 use Rattle.meaning.proofs.Stages.{Ok, keep-ext, Stage, stage-put, stage-ext, stage-later, Val}
 use Rattle.meaning.proofs.Posts.{Post, stops, gets, post_then, post_map, post_by, wp_counted, wp_key-end, wp_sealed}
@@ -101,18 +101,18 @@ module _ (value : Values) (reads : Reads value) (m₀ : Memory) (c₀ : Cursor) 
       post_by _ m bs _ (wp_key-end c₀.rows done m.rows c (λ bs.
       post_map _ (child _ m c bs bare i) (λ x m c i bs. count_post 2 done m c bs (rw e at i)))))))) n 0 m c bs i
 
-  pub sealed_post : (first n : ℕ) (m : Memory) (c : Cursor) (bs : List ℕ) → Counted anyKey 1 0 m c
-      → Post (λ x m c. (n : ℕ) × Counted anyKey 1 n m c) (entries (λ done. by (looking (λ m. sealed_key (first + done) m.names)) >>= value) c₀.rows j
+  pub sealed_post : (first n : ℕ) (m : Memory) (c : Cursor) (bs : List ℕ) → Counted any_key 1 0 m c
+      → Post (λ x m c. (n : ℕ) × Counted any_key 1 n m c) (entries (λ done. by (looking (λ m. sealed_key (first + done) m.names)) >>= value) c₀.rows j
       n 0 m c bs)
-  sealed_post first n m c bs i = entries_post (Counted anyKey 1) _ c₀.rows j (λ done m c bs i.
+  sealed_post first n m c bs i = entries_post (Counted any_key 1) _ c₀.rows j (λ done m c bs i.
       let e : suc (1 * done) ≡ 1 * suc done = omega arith in
       post_then _ _ (post_by _ m bs _ (wp_sealed c (first + done) m.names (λ l bs.
       post_map _ (child _ m c bs (named (i.stage.ok.names (first + done) l)) i) (λ x m c i bs. count_post 1 done m c bs (rw e at i)))))) n 0 m c bs i
 
   pair_post : (done : ℕ) (more : Reader Unit) (s : Span) (z : ℕ) (m : Memory) (c : Cursor) (bs : List ℕ) → s.size ≡ z → Valid (land_of m c) s
-      → Counted fullKey 1 done m c
-      → ((m : Memory) (c : Cursor) (bs : List ℕ) → Counted fullKey 1 (suc done) m c → Post (λ x m c. (n : ℕ) × Counted fullKey 1 n m c) (more m c bs))
-      → Post (λ x m c. (n : ℕ) × Counted fullKey 1 n m c) (pair value c₀.rows j done more s z m c bs)
+      → Counted full_key 1 done m c
+      → ((m : Memory) (c : Cursor) (bs : List ℕ) → Counted full_key 1 (suc done) m c → Post (λ x m c. (n : ℕ) × Counted full_key 1 n m c) (more m c bs))
+      → Post (λ x m c. (n : ℕ) × Counted full_key 1 n m c) (pair value c₀.rows j done more s z m c bs)
   unfolding pair
   pair_post done more s zero m c bs q v i h = gets (done, i)
   pair_post done more s (suc z) m c bs q v i h =
@@ -121,15 +121,15 @@ module _ (value : Values) (reads : Reads value) (m₀ : Memory) (c₀ : Cursor) 
       post_map _ (count_post 1 done m c bs (rw e at i)) (λ x m c i bs. h m c bs i))))
 
   -- pairs with any fuel, and with the one that they are read with
-  pairs-by : (most done : ℕ) (m : Memory) (c : Cursor) (bs : List ℕ) → Counted fullKey 1 done m c
-      → Post (λ x m c. (n : ℕ) × Counted fullKey 1 n m c) (pairs_by value c₀.rows j most done m c bs)
+  pairs-by : (most done : ℕ) (m : Memory) (c : Cursor) (bs : List ℕ) → Counted full_key 1 done m c
+      → Post (λ x m c. (n : ℕ) × Counted full_key 1 n m c) (pairs_by value c₀.rows j most done m c bs)
   unfolding pairs_by
   pairs-by zero done m c bs i = stops
   pairs-by (suc most) done m c bs i =
       post_then _ _ (post_map _ (text-heard i.stage bs) (λ s m c h bs.
       pair_post done _ s s.size m c bs refl h.valid (loop_heard i h) (pairs-by most (suc done))))
 
-  pub pairs_post : (m : Memory) (c : Cursor) (bs : List ℕ) → Counted fullKey 1 0 m c
-      → Post (λ x m c. (n : ℕ) × Counted fullKey 1 n m c) (pairs value c₀.rows j 0 m c bs)
+  pub pairs_post : (m : Memory) (c : Cursor) (bs : List ℕ) → Counted full_key 1 0 m c
+      → Post (λ x m c. (n : ℕ) × Counted full_key 1 n m c) (pairs value c₀.rows j 0 m c bs)
   unfolding pairs
   pairs_post m c bs i = pairs-by (suc (length bs)) 0 m c bs i

@@ -22,7 +22,7 @@ use Rattle.format.specs.Reading as r
 use Rattle.format.specs.Reading.{◌>>=◌, Reader, by, ret, u29, number, text, Values, entries, pairs_by, pairs, couple, names, dynamics, members}
 use Rattle.format.specs.Reading.{inlined, object_of, new_of, sized_of, marked, value, Result, ok, bad, Ended, finished, refused, ended, reading}
 use Rattle.format.specs.Standard.{Plain, undefined, null, boolean, integer, double, string, xml_document, xml, byte_array, date}
-use Rattle.format.specs.Standard.{intVector, uintVector, doubleVector}
+use Rattle.format.specs.Standard.{int_vector, uint_vector, double_vector}
 use Rattle.format.specs.Standard.{Tree, plain, array, object, object_vector, dictionary, Trees, nil, cons, Pairs, no_pairs, pair, Entries}
 use Rattle.format.specs.Standard.{no_entries, entry}
 use Rattle.format.specs.Standard.{count, count_pairs, count_entries, size_bytes, text_bytes, name_bytes, flag_byte, class_bytes, trait_word, encode_plain}
@@ -123,15 +123,15 @@ plain-goes (xml t) h left key =
     object-goes key left 0x0B k.xml (length t) (room 0 (length t) 0 0 0 0) (omega arith) h.short refl (λ row. goes-xml (value left) row t)
 plain-goes (byte_array t) h left key =
     object-goes key left 0x0C k.bytes (length t) (room 0 (length t) 0 0 0 0) (omega arith) h refl (λ row. goes-bytes (value left) row t)
-plain-goes (intVector fixed t) h left key =
+plain-goes (int_vector fixed t) h left key =
     let e : length t / 4 ≡ h.entries = omega (arith, h.size) in
     rw e (object-goes key left 0x0D (k.raw k.four) h.entries (room 0 (length t) 0 0 0 0) (omega arith) h.short refl
     (λ row. goes-raw (value left) row k.four (flag_byte fixed) t h))
-plain-goes (uintVector fixed t) h left key =
+plain-goes (uint_vector fixed t) h left key =
     let e : length t / 4 ≡ h.entries = omega (arith, h.size) in
     rw e (object-goes key left 0x0E (k.raw k.four) h.entries (room 0 (length t) 0 0 0 0) (omega arith) h.short refl
     (λ row. goes-raw (value left) row k.four (flag_byte fixed) t h))
-plain-goes (doubleVector fixed t) h left key =
+plain-goes (double_vector fixed t) h left key =
     let e : length t / 8 ≡ h.entries = omega (arith, h.size) in
     rw e (object-goes key left 0x0F (k.raw k.eight) h.entries (room 0 (length t) 0 0 0 0) (omega arith) h.short refl
     (λ row. goes-raw (value left) row k.eight (flag_byte fixed) t h))

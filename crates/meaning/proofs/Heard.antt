@@ -12,7 +12,7 @@ use Rattle.rows.specs.declared.Trait.{Trait}
 use Rattle.rows.specs.Memory.{Memory, memory, cursor, span, no_span, span_at}
 use Rattle.utf8.specs.Grammar.{valid_text, follow}
 use Rattle.format.specs.Decide.{strings_to, traits_to, names_to, trait_at, class_of}
-use Rattle.format.specs.Reading.{text, plain, names}
+use Rattle.format.specs.Reading.{text, plain}
 use Rattle.format.specs.Unfold.{part}
 use Rattle.format.proofs.Lists.{sets_in, Kept, kept_sets, last_or}
 use Rattle.format.proofs.Memories.{at_to, with_store, numbers}

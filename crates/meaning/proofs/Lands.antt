@@ -13,7 +13,7 @@ use Rattle.utf8.specs.Grammar.{valid_text}
 use Rattle.wire.specs.Date.{refused_date}
 use Rattle.format.specs.Standard.{is_star}
 use Rattle.format.specs.Unfold.{part}
-use Rattle.format.specs.RowTest.{is_object, signed_fits, Given, keyless, anyKey, fullKey, mark_of, is_filled}
+use Rattle.format.specs.RowTest.{is_object, signed_fits, Given, keyless, any_key, full_key, mark_of, is_filled}
 use Rattle.meaning.proofs.Ground.{Land, at, Done, Ext, done-ext}
 use Rattle.rows.specs.Memory.{row_width}
 use Rattle.rows.specs.Kinds.{kind_byte_array}
@@ -51,8 +51,8 @@ Other L s = is_star (part L.store s.begin s.size) ≡ false
 -- a key as it is given
 pub data MeetsIn (B : List ℕ) (u : ℕ) : Given → Key → Type 0 where
   bare : MeetsIn B u keyless (record { mark = 0; begin = 0; size = 0 })
-  named : {b z : ℕ} → ValidIn B u (span b z) → MeetsIn B u anyKey (record { mark = 1; begin = b; size = z })
-  long : {b z : ℕ} → ValidIn B u (span b z) → 0 < z → MeetsIn B u fullKey (record { mark = 1; begin = b; size = z })
+  named : {b z : ℕ} → ValidIn B u (span b z) → MeetsIn B u any_key (record { mark = 1; begin = b; size = z })
+  long : {b z : ℕ} → ValidIn B u (span b z) → 0 < z → MeetsIn B u full_key (record { mark = 1; begin = b; size = z })
 
 abbrev pub Meets : Land → Given → Key → Type 0
 Meets L g k = MeetsIn L.store L.full g k
@@ -97,8 +97,8 @@ pub data Form (L : Land) (i : ℕ) : ℕ → List ℕ → Type 0 where
   text : {k b z e : ℕ} → Texts k → Valid L (span b z) → e ≡ suc i → Form L i k (b ∷ z ∷ 0 ∷ 0 ∷ 0 ∷ 0 ∷ 0 ∷ e ∷ [])
   bytes : {b z e : ℕ} → Within L (span b z) → e ≡ suc i → Form L i kind_byte_array (b ∷ z ∷ 0 ∷ 0 ∷ 0 ∷ 0 ∷ 0 ∷ e ∷ [])
   raw : {k w b z f n e : ℕ} → Raws k w → Within L (span b z) → z ≡ w * n → f ≤ 1 → e ≡ suc i → Form L i k (b ∷ z ∷ 0 ∷ f ∷ 0 ∷ n ∷ 0 ∷ e ∷ [])
-  array : {x y mid e : ℕ} → Run L fullKey (suc i) mid x → Run L keyless mid e y → Form L i 9 (0 ∷ 0 ∷ 0 ∷ 0 ∷ 0 ∷ x ∷ y ∷ e ∷ [])
-  object : {b z mark x y mid e : ℕ} → Class L Full mark (span b z) → Run L anyKey (suc i) mid x → Run L fullKey mid e y
+  array : {x y mid e : ℕ} → Run L full_key (suc i) mid x → Run L keyless mid e y → Form L i 9 (0 ∷ 0 ∷ 0 ∷ 0 ∷ 0 ∷ x ∷ y ∷ e ∷ [])
+  object : {b z mark x y mid e : ℕ} → Class L Full mark (span b z) → Run L any_key (suc i) mid x → Run L full_key mid e y
       → Form L i 10 (b ∷ z ∷ mark ∷ 0 ∷ 0 ∷ x ∷ y ∷ e ∷ [])
   vector : {b z mark f x e : ℕ} → Class L (Other L) mark (span b z) → f ≤ 1 → Run L keyless (suc i) e x
       → Form L i 16 (b ∷ z ∷ mark ∷ f ∷ 0 ∷ x ∷ 0 ∷ e ∷ [])

@@ -7,7 +7,7 @@ use native.Mathlib.Omega.{arith}
 use lib.ListN.{length, take, get_or, take-append-drop}
 use lib.Seq.{length-take-le, get_or-take}
 use Rattle.rows.specs.declared.Cursor.{Cursor}
-use Rattle.rows.specs.Memory.{Memory, fresh, zeroed, fault_of, row_width, open_limit, no_key, rows_in}
+use Rattle.rows.specs.Memory.{Memory, fresh, zeroed, fault_of, row_width, open_limit, no_key}
 use Rattle.wire.proofs.Octets.{Bytes}
 use Rattle.format.specs.Reading.{ResultOf, ok, bad, Result, Ended, finished, refused, ended, unless_fault, reading}
 use Rattle.format.specs.Reading as our

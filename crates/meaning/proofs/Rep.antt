@@ -12,8 +12,8 @@ use Rattle.rows.specs.Memory.{col_kind, col_key_begin, col_key_size, col_body_be
 use Rattle.rows.specs.Memory.{col_end}
 use Rattle.wire.specs.Sign.{of_column}
 use Rattle.format.specs.Unfold.{part}
-use Rattle.format.specs.Standard.{undefined, null, boolean, integer, double, string, xml_document, xml, byte_array, date, intVector, uintVector}
-use Rattle.format.specs.Standard.{doubleVector, Tree, plain, array, object, object_vector, dictionary, Trees, nil, cons, Pairs, no_pairs, pair, Entries}
+use Rattle.format.specs.Standard.{undefined, null, boolean, integer, double, string, xml_document, xml, byte_array, date, int_vector, uint_vector}
+use Rattle.format.specs.Standard.{double_vector, Tree, plain, array, object, object_vector, dictionary, Trees, nil, cons, Pairs, no_pairs, pair, Entries}
 use Rattle.format.specs.Standard.{no_entries, entry, count, count_pairs, count_entries}
 use Rattle.format.proofs.Tests.{clash}
 use Rattle.meaning.proofs.Ground.{Land, at, Done, Ext, done-ext}
@@ -59,8 +59,8 @@ abbrev pub leaf : Face → Tree
 leaf F =
     get_or (other ∷ plain undefined ∷ plain null ∷ plain (boolean (not (eqb F.number 0))) ∷ plain (integer (of_column F.number))
     ∷ plain (double F.number) ∷ plain (string F.body) ∷ plain (xml_document F.body) ∷ plain (date F.number) ∷ other ∷ other
-    ∷ plain (xml F.body) ∷ plain (byte_array F.body) ∷ plain (intVector (flag_of F) F.body)
-    ∷ plain (uintVector (flag_of F) F.body) ∷ plain (doubleVector (flag_of F) F.body) ∷ []) F.kind other
+    ∷ plain (xml F.body) ∷ plain (byte_array F.body) ∷ plain (int_vector (flag_of F) F.body)
+    ∷ plain (uint_vector (flag_of F) F.body) ∷ plain (double_vector (flag_of F) F.body) ∷ []) F.kind other
 
 -- it is the face of a tree's own row
 abbrev pub Is : Tree → Face → Type 0

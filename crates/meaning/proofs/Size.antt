@@ -14,7 +14,7 @@ use Rattle.wire.proofs.U29.{u29-length, more_le, more-least}
 use Rattle.wire.proofs.Big.{bytes-length}
 use Rattle.rows.specs.Memory.{Memory, row_width, span_width, trait_width, fault_of, message_limit}
 use Rattle.format.specs.Standard.{Plain, undefined, null, boolean, integer, double, string, xml_document, xml, byte_array, date}
-use Rattle.format.specs.Standard.{intVector, uintVector, doubleVector}
+use Rattle.format.specs.Standard.{int_vector, uint_vector, double_vector}
 use Rattle.format.specs.Standard.{Tree, plain, array, object, object_vector, dictionary, Trees, nil, cons, Pairs, no_pairs, pair, Entries, no_entries, entry}
 use Rattle.format.specs.Standard.{count, count_entries, size_bytes, name_bytes, class_bytes, trait_word, encode_plain}
 use Rattle.format.specs.Standard.{array_head, object_head, vector_head, dictionary_head}
@@ -58,9 +58,9 @@ plain_size (xml_document t) = simp length-append (omega (arith, word_size (lengt
 plain_size (xml t) = simp length-append (omega (arith, word_size (length t * 2 + 1)))
 plain_size (byte_array t) = simp length-append (omega (arith, word_size (length t * 2 + 1)))
 plain_size (date bits) = omega (arith, bytes-length 8 bits)
-plain_size (intVector fixed t) = simp length-append (omega (arith, word_size (length t / 4 * 2 + 1)))
-plain_size (uintVector fixed t) = simp length-append (omega (arith, word_size (length t / 4 * 2 + 1)))
-plain_size (doubleVector fixed t) = simp length-append (omega (arith, word_size (length t / 8 * 2 + 1)))
+plain_size (int_vector fixed t) = simp length-append (omega (arith, word_size (length t / 4 * 2 + 1)))
+plain_size (uint_vector fixed t) = simp length-append (omega (arith, word_size (length t / 4 * 2 + 1)))
+plain_size (double_vector fixed t) = simp length-append (omega (arith, word_size (length t / 8 * 2 + 1)))
 
 -- the end of dynamic members takes a byte
 dynamic-size : (ps : Pairs) → length (encode_dynamic ps) ≤ suc (length (encode_pairs ps))

@@ -12,8 +12,8 @@ use Rattle.rows.specs.Memory.{col_kind, col_end, rows_in, col}
 use Rattle.wire.specs.Sign.{of_column}
 use Rattle.format.specs.Unfold.{part, home, after, trees_at, pairs_at, entries_at, node, tree_at}
 use Rattle.format.specs.Unfold as flatly
-use Rattle.format.specs.Standard.{Plain, undefined, null, boolean, integer, double, string, xml_document, xml, byte_array, date, intVector, uintVector}
-use Rattle.format.specs.Standard.{doubleVector, Tree, plain, array, object, object_vector, dictionary, Trees, nil, cons, Pairs, no_pairs, pair, Entries}
+use Rattle.format.specs.Standard.{Plain, undefined, null, boolean, integer, double, string, xml_document, xml, byte_array, date, int_vector, uint_vector}
+use Rattle.format.specs.Standard.{double_vector, Tree, plain, array, object, object_vector, dictionary, Trees, nil, cons, Pairs, no_pairs, pair, Entries}
 use Rattle.format.specs.Standard.{no_entries, entry, count, count_pairs, count_entries}
 use Rattle.format.proofs.Tests.{clash}
 use Rattle.meaning.proofs.Ground.{Land, at}
@@ -26,12 +26,12 @@ use Rattle.rows.specs.Memory.{col_key_begin, col_key_size, col_body_begin, col_b
 pick : (F : Face) (A O U D : Tree) (p : Plain) (k : ℕ) → get_or
     (other ∷ plain undefined ∷ plain null ∷ plain (boolean (not (eqb F.number 0))) ∷ plain (integer (of_column F.number)) ∷ plain
     (double F.number) ∷ plain (string F.body) ∷ plain (xml_document F.body) ∷ plain (date F.number) ∷ other ∷ other ∷ plain
-    (xml F.body) ∷ plain (byte_array F.body) ∷ plain (intVector (flag_of F) F.body) ∷ plain (uintVector (flag_of F) F.body) ∷ plain
-    (doubleVector (flag_of F) F.body) ∷ []) k other ≡ plain p
+    (xml F.body) ∷ plain (byte_array F.body) ∷ plain (int_vector (flag_of F) F.body) ∷ plain (uint_vector (flag_of F) F.body) ∷ plain
+    (double_vector (flag_of F) F.body) ∷ []) k other ≡ plain p
     → get_or (plain null ∷ plain undefined ∷ plain null ∷ plain (boolean (not (eqb F.number 0))) ∷ plain (integer (of_column F.number)) ∷ plain
     (double F.number) ∷ plain (string F.body) ∷ plain (xml_document F.body) ∷ plain (date F.number) ∷ A ∷ O ∷ plain (xml F.body) ∷ plain
-    (byte_array F.body) ∷ plain (intVector (flag_of F) F.body) ∷ plain (uintVector (flag_of F) F.body) ∷ plain
-    (doubleVector (flag_of F) F.body) ∷ U ∷ D ∷ []) k (plain null) ≡ plain p
+    (byte_array F.body) ∷ plain (int_vector (flag_of F) F.body) ∷ plain (uint_vector (flag_of F) F.body) ∷ plain
+    (double_vector (flag_of F) F.body) ∷ U ∷ D ∷ []) k (plain null) ≡ plain p
 pick F A O U D p zero h = clash cc
 pick F A O U D p (suc zero) h = h
 pick F A O U D p (suc (suc zero)) h = h

@@ -27,7 +27,7 @@ use Rattle.format.specs.Decide.{Width, four, eight, width_of, entered, referred,
 use Rattle.format.specs.Reading as reading
 use Rattle.format.specs.Reading.{◌>>=◌, ◌>>◌, Values, decided, by, ret, entries}
 use Rattle.format.specs.Unfold.{part}
-use Rattle.format.specs.RowTest.{is_object, Given, fullKey}
+use Rattle.format.specs.RowTest.{is_object, Given, full_key}
 use Rattle.format.proofs.Tests.{on_bool}
 use Rattle.format.proofs.Memories.{with_rows, at_to}
 use Rattle.meaning.proofs.Ground.{col-lent, done-ext, ext_same, ext_trans, land_of}
@@ -239,7 +239,7 @@ module _ (g : Given) (k : Key) (m₀ : Memory) (c₀ : Cursor) (ok₀ : Ok m₀ 
     -- ---- objects
 
     dynamics_post : (cs : List ℕ) (y : ℕ) (m : Memory) (c : Cursor) (bs : List ℕ) → Stage m₀ c₀ (set cs 10 0) m c
-        → Post (λ u m' c'. (x : ℕ) × Loop (land_of m c) fullKey c.rows m₀ c₀ (set cs 10 x) (1 * x) m' c') (reading.dynamics value c₀.rows y m c bs)
+        → Post (λ u m' c'. (x : ℕ) × Loop (land_of m c) full_key c.rows m₀ c₀ (set cs 10 x) (1 * x) m' c') (reading.dynamics value c₀.rows y m c bs)
     unfolding reading.dynamics
     dynamics_post cs zero m c bs x = gets (0, loop_begin x)
     dynamics_post cs (suc y) m c bs x = pairs_post value reads m₀ c₀ cs (land_of m c) c.rows 10 (omega arith) (omega arith) m c bs

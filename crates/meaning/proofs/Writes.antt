@@ -2,7 +2,7 @@
 use mathlib.Core.Path.{◌≡◌, refl, ap, sym, ◌∙◌}
 use mathlib.Core.Bool.{true, false, cond}
 use mathlib.Core.List.{List, [], ◌++◌}
-use Prim.Native.Nat.{ℕ, zero, suc, ◌<◌, ◌≤◌}
+use Prim.Native.Nat.{ℕ, zero, suc, ◌≤◌}
 use native.Mathlib.Omega.{arith}
 use native.Mathlib.Decide.{dec_le}
 use borrow.Author.Tests.{le-ltb, lt-ltb, le-leb, lt-leb}
@@ -18,7 +18,7 @@ use Rattle.format.specs.declared.Written.TheVariants.{Bytes as Written}
 use Rattle.format.specs.Answers.{output, written_of, write_call}
 use Rattle.format.proofs.Tests.{clash}
 use Rattle.meaning.proofs.Parts.{depth}
-use Rattle.meaning.proofs.Emit.{begins_prefix, emit-whole, emit-deep, Nested, nested-deep, emit-stop}
+use Rattle.meaning.proofs.Emit.{begins_prefix, emit-whole, emit-deep, nested-deep, emit-stop}
 pub use Rattle.format.specs.Endings.{First, Unrefused, Ends, whole, full, too_deep, full_before, Outcome, fault, unfit, passed, Accepted}
 
 -- ---- the end of a tree's writing

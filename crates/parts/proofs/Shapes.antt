@@ -1,12 +1,10 @@
 -- An object word that is no reference: the object is entered, and its trait follows.
 use mathlib.Core.Path.{◌≡◌, refl}
-use mathlib.Core.List.{List, [], ◌∷◌}
+use mathlib.Core.List.{List}
 use Prim.Native.Nat.{ℕ}
-use denote.Enum.Declared.{tag_of}
 use Rattle.rows.specs.declared.Cursor.{Cursor}
 use Rattle.rows.specs.declared.Trait.{Trait}
 use Rattle.rows.specs.Memory.{Memory}
-use Rattle.wire.specs.contracts.Shape as shape
 use Rattle.wire.specs.declared.Shape.{Shape}
 use Rattle.wire.specs.declared.Shape.TheVariants.{Object, Known, External, Inline}
 use Rattle.format.specs.Decide.{on_objects, entered}

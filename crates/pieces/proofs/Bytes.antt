@@ -1,14 +1,13 @@
 -- A byte of a piece: what it leaves, that it counts where it was taken, and that nothing follows an end.
 use mathlib.Core.Path.{◌≡◌, refl, sym, ap, ◌∙◌}
 use mathlib.Core.Bool.{Bool, true, false, cond, ◌&&◌, ◌||◌}
-use mathlib.Core.List.{List, [], ◌∷◌}
+use mathlib.Core.List.{List, ◌∷◌}
 use Prim.Native.Nat.{ℕ, ◌+◌, ◌^◌, ◌<◌}
 use native.Mathlib.Omega.{arith}
 use native.Mathlib.Nat.{add-zero}
 use lib.Dec.{leb, eqb}
 use lib.ListN.{length}
 use borrow.Author.Tests.{eqb-true}
-use denote.Enum.Declared.{tag_of}
 use Rattle.rows.specs.declared.Cursor.{Cursor}
 use Rattle.rows.specs.Memory.{Memory, fault_of, message_limit, open_limit}
 use Rattle.format.specs.declared.Head.{Head}
@@ -24,7 +23,6 @@ use Rattle.format.proofs.States.{Shown, state-numbered, mode-of, length-laid, fr
 use Rattle.format.proofs.Along.{Good, waits, finishes, declines, good-step}
 use Rattle.format.proofs.Shows.{good-sound, good-shown, sound-pairs}
 use Rattle.format.proofs.Pieces.{run-still, taken-still}
-use Rattle.resume.specs.contracts.Next as next
 use Rattle.resume.specs.declared.Next.{Next}
 use Rattle.resume.specs.declared.Next.TheVariants.{Wait, Finished, Refused}
 use Rattle.resume.specs.Steps.{After, after, after_of, settled}

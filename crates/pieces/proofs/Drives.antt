@@ -2,13 +2,12 @@
 use mathlib.Core.Path.{◌≡◌, refl, sym, ap, ◌∙◌}
 use mathlib.Core.Bool.{true, false, ◌&&◌}
 use mathlib.Core.List.{List, [], ◌∷◌, ◌++◌}
-use Prim.Native.Nat.{ℕ, zero, suc, ◌+◌, ◌-◌, ◌^◌, ◌≤◌, ◌<◌}
+use Prim.Native.Nat.{ℕ, zero, suc, ◌+◌, ◌-◌, ◌≤◌, ◌<◌}
 use native.Mathlib.Numerals.{add-one}
 use native.Mathlib.Omega.{arith}
 use lib.ListN.{length, get_or, take, drop, drop_of_length-le, take-append-drop}
 use lib.Seq.{sets, slice, drop-cons, drop-append-le, length-take-le, length-slice, take_at, get_or-drop}
-use lib.Dec.{leb, eqb, lit<}
-use denote.Enum.Declared.{tag_of}
+use lib.Dec.{eqb, lit<}
 use Rattle.rows.specs.declared.Cursor.{Cursor}
 use Rattle.rows.specs.Memory.{Memory, memory, message_limit}
 use Rattle.format.specs.declared.Head.{Head}
@@ -23,7 +22,6 @@ use Rattle.format.proofs.Pieces.{run-still, taken-still}
 use Rattle.format.proofs.Shows.{good-sound, good-waits}
 use Rattle.wire.proofs.Octets.{Bytes}
 use Rattle.states.specs.Ends.{has_ended}
-use Rattle.resume.specs.contracts.Next as next
 use Rattle.resume.specs.declared.Next.{Next}
 use Rattle.resume.specs.declared.Next.TheVariants.{Wait, Refused}
 use Rattle.resume.specs.Steps.{After, after, after_of, settled, refusal_of}

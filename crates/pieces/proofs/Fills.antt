@@ -37,7 +37,7 @@ use Rattle.states.specs.Purposes.{IsRaw}
 use Rattle.resume.proofs.Settled as answer
 use Rattle.states.proofs.Purposes.{between, purposed, text_of, raw_of}
 use Rattle.states.proofs.Modes.{mode-text, mode-raw, fits-text, fits-raw, no_mode}
-use Rattle.pieces.specs.States.{head_of, state_after, waiting, Ready, Nearly, work_past, rows_past, rows_after}
+use Rattle.pieces.specs.States.{head_of, state_after, waiting, Ready, work_past, rows_past, rows_after}
 use Rattle.pieces.proofs.Steps.{further, stepped-on, deep-enough}
 use Rattle.pieces.proofs.Bytes.{nearly_ready, pairs_hold, runs-byte, takes-byte, is-ready}
 use Rattle.format.specs.Codes.{mode_text, mode_raw}

@@ -1,5 +1,5 @@
 -- A byte leaves a state that waits or has ended, never one that was not begun.
-use mathlib.Core.Bool.{Bool, true, false, cond}
+use mathlib.Core.Bool.{Bool}
 use mathlib.Core.List.{List, [], ◌∷◌}
 use Prim.Native.Nat.{ℕ, zero, suc, ◌+◌, ◌*◌, ◌-◌}
 use lib.Dec.{eqb}
@@ -19,15 +19,15 @@ use Rattle.wire.specs.Word.{size_of, shape_of}
 use Rattle.wire.specs.Big.{digit_of}
 use Rattle.utf8.specs.States.{step_of}
 use Rattle.format.specs.declared.Frame.{Frame}
-use Rattle.format.specs.Decide.{Out, stop, give, Decision, looking, on_rows, on_store, on_strings, on_objects, on_traits, on_names, Width, width_of}
+use Rattle.format.specs.Decide.{Out, stop, give, Decision, looking, on_rows, on_store, on_strings, on_objects, on_traits, on_names, width_of}
 use Rattle.format.specs.Decide.{Body, xml, date, array, bytes, raw, objects, dictionary, Kind, leaf, integer, double, string, object, sized}
 use Rattle.format.specs.Decide.{kind_of, marker, closed, numbered, integer_end, date_end, bodied, object_class, vector_class, fixed, weak, flagged}
 use Rattle.format.specs.Decide.{counted, key_end, old_text, reserved, stored, judged, text_end, entered, referred, old_trait, trait_of, named, trait_end, sealed_key, starred}
-use Rattle.format.specs.Step.{Pairing, assoc, dynamics, Items, dense, vector, count_of, Task, pairs_of, items_of, members_of, keys_of, values_of, strange, task_of, frame_of}
+use Rattle.format.specs.Step.{Pairing, assoc, dynamics, dense, vector, count_of, Task, pairs_of, items_of, members_of, keys_of, values_of, strange, task_of, frame_of}
 use Rattle.format.specs.Step.{Use, for_string, for_key, for_class, for_external, for_name, for_vector, Text, xml_text, table_text}
-use Rattle.format.specs.Step.{Word, integerWord, objectWord, size_word, text_word, Number, doubleBits, dateBits, Flag, raw_flag, objectsFlag, dictionaryFlag}
+use Rattle.format.specs.Step.{Word, integer_word, object_word, size_word, text_word, Number, double_bits, date_bits, Flag, raw_flag, objects_flag, dictionary_flag}
 use Rattle.format.specs.Step.{Raw, byte_array, raw_vector, raw_row, Mode, at_marker, at_word, at_number, at_flag, at_text, at_raw, astray, State, wait, over, none}
-use Rattle.format.specs.Step.{on, broken, at_string, shown, go, entry, pop, onward, ends, keyed, members, naming, had, text_done, reserved_for, string_sized}
+use Rattle.format.specs.Step.{on, at_string, shown, go, entry, pop, onward, ends, keyed, members, naming, had, text_done, reserved_for, string_sized}
 use Rattle.format.specs.Step.{roomy, texting, filling, opened, body_sized, object_shaped, worded, number_done, flag_done, raw_grown, begun, on_part, act}
 
 abbrev pub Going : State → Type 0
@@ -173,22 +173,22 @@ module _ (ts : List Frame) where
 
   worded-going : (x : Word) (n : ℕ) (c : Cursor) (m : Memory) → Going (worded ts x n c m)
   unfolding worded
-  worded-going (integerWord row) n c m = ends-going (on_rows (integer_end row n)) c m
-  worded-going (objectWord row) n c m = object-going row (shape_of n) c m
+  worded-going (integer_word row) n c m = ends-going (on_rows (integer_end row n)) c m
+  worded-going (object_word row) n c m = object-going row (shape_of n) c m
   worded-going (size_word row b) n c m = body-going row b (size_of n) c m
   worded-going (text_word u) n c m = string-going u (size_of n) c m
 
   number-going : (x : Number) (n : ℕ) (c : Cursor) (m : Memory) → Going (number_done ts x n c m)
   unfolding number_done
-  number-going (doubleBits row) n c m = ends-going (on_rows (numbered row n)) c m
-  number-going (dateBits row) n c m = ends-going (on_rows (date_end row n)) c m
+  number-going (double_bits row) n c m = ends-going (on_rows (numbered row n)) c m
+  number-going (date_bits row) n c m = ends-going (on_rows (date_end row n)) c m
 
   flag-going : (x : Flag) (b : ℕ) (c : Cursor) (m : Memory) → Going (flag_done ts x b c m)
   unfolding flag_done
   flag-going (raw_flag row w s) b c m =
       on-going (on_rows (flagged row (fixed b)) m c) m (λ x. filling ts (raw_vector row w) s s.size) (λ x. filling-going (raw_vector row w) s s.size)
-  flag-going (objectsFlag row n) b c m = on-going (on_rows (flagged row (fixed b)) m c) m (λ x. wait (at_string (for_vector row n)) ts) (λ x c m. tt)
-  flag-going (dictionaryFlag row n) b c m = on-going (on_rows (flagged row (weak b)) m c) m (λ x. onward ts (keys_of row n 0)) (λ x. onward-going (keys_of row n 0))
+  flag-going (objects_flag row n) b c m = on-going (on_rows (flagged row (fixed b)) m c) m (λ x. wait (at_string (for_vector row n)) ts) (λ x c m. tt)
+  flag-going (dictionary_flag row n) b c m = on-going (on_rows (flagged row (weak b)) m c) m (λ x. onward ts (keys_of row n 0)) (λ x. onward-going (keys_of row n 0))
 
   begun-going : (row : ℕ) (k : Kind) (c : Cursor) (m : Memory) → Going (begun ts row k c m)
   unfolding begun

@@ -1,5 +1,5 @@
 -- A head and its frames as the numbers of a state, and what a byte makes of them.
-use Rattle.std.specs.Prelude.{◌≡◌, Bool, true, false, cond, ◌&&◌, ◌||◌, List, ℕ, suc, ◌+◌, ◌-◌, ◌≤◌, ◌<◌, leb, eqb, drop}
+use Rattle.std.specs.Prelude.{◌≡◌, true, cond, ◌||◌, List, ℕ, suc, ◌+◌, ◌-◌, ◌≤◌, ◌<◌, eqb, drop}
 use Rattle.rows.specs.declared.Cursor.{Cursor}
 use Rattle.rows.specs.Memory.{Memory, fresh, message_limit}
 use Rattle.utf8.specs.States.{fold_of}

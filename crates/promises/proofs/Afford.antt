@@ -31,7 +31,7 @@ use Rattle.format.specs.Reading as our
 use Rattle.format.specs.Reading.{ResultOf, ok, bad, Result, Reader, bind, ◌>>=◌, ◌>>◌, ret, decided, by, Values}
 use Rattle.format.specs.Standard as std
 use Rattle.format.specs.Standard.{Traits, Tables, Std, fail, lookup, Plain, undefined, null, boolean, integer, double, string, xml_document, xml, byte_array, date}
-use Rattle.format.specs.Standard.{intVector, uintVector, doubleVector, class_given, starred, xml_of, vector_of, leaf_of, enter_traits}
+use Rattle.format.specs.Standard.{int_vector, uint_vector, double_vector, class_given, starred, xml_of, vector_of, leaf_of, enter_traits}
 use Rattle.format.specs.Standard.{Tree, plain, array, object, object_vector, dictionary, cons, Pairs, no_pairs, pair, entry}
 use Rattle.format.specs.Holds.{Room, room, ◌and◌, nothing, a_row, an_object, of_text, of_class, of_plain, of_tree, of_trees, of_pairs, of_sealed, of_entries}
 use Rattle.format.proofs.Memories.{numbers}
@@ -108,9 +108,9 @@ plain_row (xml_document t) = omega arith
 plain_row (xml t) = omega arith
 plain_row (byte_array t) = omega arith
 plain_row (date bits) = omega arith
-plain_row (intVector fixed t) = omega arith
-plain_row (uintVector fixed t) = omega arith
-plain_row (doubleVector fixed t) = omega arith
+plain_row (int_vector fixed t) = omega arith
+plain_row (uint_vector fixed t) = omega arith
+plain_row (double_vector fixed t) = omega arith
 
 pub tree-row : (t : Tree) → Within a_row (of_tree t)
 unfolding of_tree
@@ -235,7 +235,7 @@ xml-room b t = test (eqb b 0x07)
 pub vector-room : (b : ℕ) (fixed : Bool) (t : List ℕ) → Within (an_object (length t)) (of_tree (plain (vector_of b fixed t)))
 vector-room b fixed t = test (eqb b 0x0D) (eqb b 0x0E)
   where
-    test : (v w : Bool) → Within (an_object (length t)) (of_tree (plain (cond v (intVector fixed t) (cond w (uintVector fixed t) (doubleVector fixed t)))))
+    test : (v w : Bool) → Within (an_object (length t)) (of_tree (plain (cond v (int_vector fixed t) (cond w (uint_vector fixed t) (double_vector fixed t)))))
     test true w = (unfold of_tree of_plain in omega arith)
     test false true = (unfold of_tree of_plain in omega arith)
     test false false = (unfold of_tree of_plain in omega arith)

@@ -18,7 +18,7 @@ use Rattle.format.specs.declared.Lent.{Lent}
 use Rattle.format.specs.declared.Frame.{Frame}
 use Rattle.format.specs.Reading.{Ended, finished, refused, taken}
 use Rattle.format.specs.Step.{Mode, State, wait, over, none, act, step, end, begin}
-use Rattle.format.specs.Numbers.{Numbers, Held, held, head, lent_of, laid, state_of, numbers_of, memory_of, after_step, byte_step, sound}
+use Rattle.format.specs.Numbers.{Numbers, Held, held, lent_of, laid, state_of, numbers_of, memory_of, after_step, byte_step, sound}
 use Rattle.format.specs.Numbers.{sound_step, frames_size}
 use Rattle.format.specs.Answers.{fed, answer_of, answered, begin_call, run_held, cost_from, state_in, taken_by, feed_call, end_of, end_call}
 use Rattle.format.proofs.Tests.{on_bool, is_true, clash}

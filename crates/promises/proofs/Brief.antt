@@ -202,7 +202,7 @@ key-heft : (b : ℕ) (x : List ℕ) → texted (b ∷ x) ≤ heft (of_text (b �
 unfolding of_text
 key-heft b x = rw (eqb-suc-zero (length x)) (omega arith)
 
-module _ (v : Std Tree) (h : Brief 0 tree_heft v) (sealedCost : (xs : List (List ℕ)) → Gives (λ ps. Within (names_cost xs and values_cost ps) (of_sealed ps)) (sealed v xs)) where
+module _ (v : Std Tree) (h : Brief 0 tree_heft v) (sealed_cost : (xs : List (List ℕ)) → Gives (λ ps. Within (names_cost xs and values_cost ps) (of_sealed ps)) (sealed v xs)) where
   trees-brief : (n : ℕ) → Brief 0 (λ ts. heft (of_trees ts)) (trees v n)
   unfolding trees of_trees
   trees-brief zero = brief-ret (omega arith)
@@ -237,7 +237,7 @@ module _ (v : Std Tree) (h : Brief 0 tree_heft v) (sealedCost : (xs : List (List
   members-brief f i t =
       let a = class-room t.class in
       let b = names-cost t.names in
-      brief-told (λ ps. Within (names_cost t.names and values_cost ps) (of_sealed ps)) (sealedCost t.names).gives (sealed-brief t.names)
+      brief-told (λ ps. Within (names_cost t.names and values_cost ps) (of_sealed ps)) (sealed_cost t.names).gives (sealed-brief t.names)
       (λ ps w. brief-bind (dynamics-brief f t.dynamic) (λ ys. shut-brief i (object (class_given t.class) ps ys) (omega arith)))
 
   object-brief : (f : ℕ) (z : Shape) → Brief 5 tree_heft (object_of v f z)

@@ -23,7 +23,7 @@ use Rattle.format.proofs.Lengths.{same-lent}
 use Rattle.format.proofs.Feeding.{feeding}
 use Rattle.format.proofs.Cuts as cuts
 use Rattle.format.proofs.Cuts.{run-over}
-use Rattle.promises.proofs.Counted.{Waits, run-append, fed-is}
+use Rattle.promises.proofs.Counted.{Waits, fed-is}
 use Rattle.promises.proofs.Answered.{begin-waits}
 use Rattle.promises.proofs.Trips.{append-bytes}
 use Rattle.promises.proofs.Behind.{none-run, run-finished, more-behind, read-finished}

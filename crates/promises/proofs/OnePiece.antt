@@ -8,7 +8,7 @@ use lib.Seq.{drop-append_seam, drop-append-add, drop-append-le}
 use Rattle.rows.specs.declared.Cursor.{Cursor}
 use Rattle.rows.specs.Memory.{Memory, fault_of}
 use Rattle.wire.specs.Octets.{Bytes}
-use Rattle.format.specs.Reading.{finished, refused, reading}
+use Rattle.format.specs.Reading.{finished, refused}
 use Rattle.format.specs.Step.{State, wait, over, none, run, end, begin}
 use Rattle.format.specs.Numbers.{Held, held, lent_of, state_of, memory_of, after_step}
 use Rattle.format.specs.Answers.{Fed, fed, answer_of, answered, blank, begin_call, run_held, state_in, taken_by}

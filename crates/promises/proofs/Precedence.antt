@@ -3,7 +3,7 @@
 use mathlib.Core.Path.{◌≡◌, refl, ap, ◌∙◌}
 use mathlib.Core.Bool.{true, false}
 use mathlib.Core.Logic.{◌≢◌}
-use mathlib.Core.List.{List, [], ◌∷◌}
+use mathlib.Core.List.{List, ◌∷◌}
 use Prim.Native.Nat.{ℕ, zero, suc, ◌+◌, ◌*◌, ◌-◌, ◌/◌, ◌^◌, ◌≤◌, ◌<◌}
 use native.Mathlib.Nat.{add-zero, le_refl}
 use native.Mathlib.Omega.{arith}
@@ -26,7 +26,7 @@ use Rattle.format.specs.declared.Answer.TheVariants.{Refused}
 use Rattle.format.specs.declared.Frame.{Frame}
 use Rattle.format.specs.Reading.{refused, taken}
 use Rattle.format.specs.Decide.{give, refuse, objects_to, marker, entered, reserved, stored, text_end, judged, width_of, xml, date, array, bytes, raw, objects, dictionary, Body}
-use Rattle.format.specs.Step.{Word, integerWord, objectWord, size_word, text_word, Text, xml_text, table_text, Use, Mode, at_marker, at_word, at_text, State, wait, over}
+use Rattle.format.specs.Step.{Word, integer_word, object_word, size_word, text_word, Text, xml_text, table_text, Use, Mode, at_marker, at_word, at_text, State, wait, over}
 use Rattle.format.specs.Step.{worded, body_sized, object_shaped, string_sized, opened, roomy, text_done, act, step}
 use Rattle.format.specs.Numbers.{Numbers, held, state_of, numbers_of, lent_of, sound_step, after_step, byte_step}
 use Rattle.format.specs.Answers.{fed, run_held, cost, taken_by, feed_call}
@@ -180,8 +180,8 @@ module _ (n : Numbers) (m : Memory) (b : ℕ) (bs : List ℕ) (x : Word) (left p
   word-objects : (x : Word) → WordIn x c → Enters x v → length m.objects ≤ c.objects
       → worded ts x v (taken c) m ≡ over (refused no.no_room loan_objects (suc c.at) (zeroed m))
   unfolding worded
-  word-objects (integerWord row) r e f = absurd e
-  word-objects (objectWord row) r e f = shape_objects row r f (shape_of v) e
+  word-objects (integer_word row) r e f = absurd e
+  word-objects (object_word row) r e f = shape_objects row r f (shape_of v) e
   word-objects (size_word row body) r e f = size-objects row body r f (size_of v) e
   word-objects (text_word u) r e f = absurd e
 
@@ -242,8 +242,8 @@ module _ (n : Numbers) (m : Memory) (b : ℕ) (bs : List ℕ) (x : Word) (left p
   word-store : (x : Word) → WordIn x c → (Enters x v → c.objects < length m.objects) → length m.store < c.store + asked x (size_of v)
       → worded ts x v (taken c) m ≡ over (refused no.no_room loan_store (suc c.at) (zeroed m))
   unfolding worded
-  word-store (integerWord row) r e f = absurd (none_lacked f)
-  word-store (objectWord row) r e f = absurd (none_lacked f)
+  word-store (integer_word row) r e f = absurd (none_lacked f)
+  word-store (object_word row) r e f = absurd (none_lacked f)
   word-store (size_word row body) r e f = size-store row body r (size_of v) e f
   word-store (text_word u) r e f = string-store u (size_of v) f
 

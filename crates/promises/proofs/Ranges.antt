@@ -19,7 +19,7 @@ use Rattle.format.specs.Numbers.{Numbers, Held, held, finishable, lent_of, state
 use Rattle.format.specs.Answers.{answer_of, blank, begin_call, run_held, cost, cost_from, state_in, taken_by, feed_call, end_of, end_call, read_of, read_call}
 use Rattle.format.specs.Answers.{written_of, write_call}
 use Rattle.format.specs.declared.Lent.{Lent}
-use Rattle.format.specs.RowTest.{Tested, fine, faulty as unfitRow, well_formed, writable, test_from, tested}
+use Rattle.format.specs.RowTest.{Tested, fine, faulty as unfit_row, well_formed, writable, test_from, tested}
 use Rattle.format.specs.Writing.{Wrote, writing}
 use Rattle.format.proofs.Tests.{on_bool, is_true, both, clash}
 use Rattle.format.proofs.Kept.{holds-finishable}
@@ -66,16 +66,16 @@ told_named : (n told place : ℕ) → T (refusals.tells n told) → Named n told
 unfolding refusals.tells
 told_named n told place h =
     on-number n refusals.bad_marker (λ q e. (refusals.unknown_marker told place, sym q, refl, refl)) (λ a.
-    on-number n refusals.no_entry (λ q e. (refusals.missingEntry told place, sym q, refl, refl)) (λ b.
-    on-number n refusals.open_object (λ q e. (refusals.unfinishedObject told place, sym q, refl, refl)) (λ c.
+    on-number n refusals.no_entry (λ q e. (refusals.missing_entry told place, sym q, refl, refl)) (λ b.
+    on-number n refusals.open_object (λ q e. (refusals.unfinished_object told place, sym q, refl, refl)) (λ c.
     on-number n refusals.bad_date (λ q e. (refusals.refused_bits told place, sym q, refl, refl)) (λ d.
     on-number n refusals.no_room (λ q e. (refusals.full_loan told place, sym q, refl, refl)) (λ f.
     let t : T ((eqb n refusals.externalizable || eqb n refusals.bad_text || eqb n refusals.too_deep) && eqb told 0) = rw (a, b, c, d, f) at h in
     let z : told ≡ 0 = same told 0 (and_right (eqb n refusals.externalizable || eqb n refusals.bad_text || eqb n refusals.too_deep) (eqb told 0) t) in
     let u = and_left (eqb n refusals.externalizable || eqb n refusals.bad_text || eqb n refusals.too_deep) (eqb told 0) t in
     on-number n refusals.externalizable (λ q e. (refusals.external_class place, sym q, sym z, refl)) (λ i.
-    on-number n refusals.bad_text (λ q e. (refusals.invalidText place, sym q, sym z, refl)) (λ j.
-    on-number n refusals.too_deep (λ q e. (refusals.deepValue place, sym q, sym z, refl)) (λ k. absurd (rw (i, j, k) at u)))))))))
+    on-number n refusals.bad_text (λ q e. (refusals.invalid_text place, sym q, sym z, refl)) (λ j.
+    on-number n refusals.too_deep (λ q e. (refusals.deep_value place, sym q, sym z, refl)) (λ k. absurd (rw (i, j, k) at u)))))))))
 
 -- what a reading can say
 pub sayable-named : (n told place : ℕ) → T (refusals.sayable n told place) → Named n told place
@@ -86,21 +86,21 @@ sayable-named n told place h =
     on-number n refusals.unexpected_end (λ q e. (refusals.ended_bytes place, sym q, sym (same told 0 (rw (a, e) at h)), refl)) (λ b.
     on-number n refusals.too_long
     (λ q e. let t : T (eqb told 0 && eqb place message_most) = rw (a, b, e) at h in
-    (refusals.longMessage, sym q, sym (same told 0 (and_left (eqb told 0) (eqb place message_most) t)), sym (same place message_most (and_right (eqb told 0) (eqb place message_most) t)))) (λ c.
+    (refusals.long_message, sym q, sym (same told 0 (and_left (eqb told 0) (eqb place message_most) t)), sym (same place message_most (and_right (eqb told 0) (eqb place message_most) t)))) (λ c.
     on-number n refusals.lost
     (λ q e. let t : T (eqb told 0 && eqb place 0) = rw (a, b, c, e) at h in
-    (refusals.lostState, sym q, sym (same told 0 (and_left (eqb told 0) (eqb place 0) t)), sym (same place 0 (and_right (eqb told 0) (eqb place 0) t)))) (λ d.
+    (refusals.lost_state, sym q, sym (same told 0 (and_left (eqb told 0) (eqb place 0) t)), sym (same place 0 (and_right (eqb told 0) (eqb place 0) t)))) (λ d.
     let t : T (refusals.tells n told && leb 1 place && leb place message_most) = rw (a, b, c, d) at h in
     told_named n told place (and_left (refusals.tells n told) (leb 1 place) (and_left (refusals.tells n told && leb 1 place) (leb place message_most) t))))))
 
 -- what a writing says
 pub write-named : {rows out n told place : ℕ} → WriteRefuses rows out n told place → Named n told place
 write-named (lends {loan = loan} h l) = (refusals.faulty_loan loan, refl, refl, refl)
-write-named (nests {place = place} h) = (refusals.deepValue place, refl, refl, refl)
+write-named (nests {place = place} h) = (refusals.deep_value place, refl, refl, refl)
 write-named {out = out} fills = (refusals.full_loan loan_output out, refl, refl, refl)
-write-named (misshapes {row = row} h) = (refusals.malformedRow row, refl, refl, refl)
-write-named (empties e) = (refusals.malformedRow 0, refl, refl, refl)
-write-named (unsuits {row = row} h) = (refusals.unwritableRow row, refl, refl, refl)
+write-named (misshapes {row = row} h) = (refusals.malformed_row row, refl, refl, refl)
+write-named (empties e) = (refusals.malformed_row 0, refl, refl, refl)
+write-named (unsuits {row = row} h) = (refusals.unwritable_row row, refl, refl, refl)
 
 -- ---- begin
 
@@ -246,17 +246,17 @@ unfolding refusals.sayable refusals.tells
 number-most (refusals.faulty_loan loan) h = lit≤ tt
 number-most (refusals.ended_bytes place) h = lit≤ tt
 number-most (refusals.unknown_marker b place) h = lit≤ tt
-number-most (refusals.missingEntry i place) h = lit≤ tt
-number-most (refusals.unfinishedObject i place) h = lit≤ tt
+number-most (refusals.missing_entry i place) h = lit≤ tt
+number-most (refusals.unfinished_object i place) h = lit≤ tt
 number-most (refusals.external_class place) h = lit≤ tt
 number-most (refusals.refused_bits bits place) h = lit≤ tt
-number-most (refusals.invalidText place) h = lit≤ tt
-number-most (refusals.deepValue place) h = lit≤ tt
+number-most (refusals.invalid_text place) h = lit≤ tt
+number-most (refusals.deep_value place) h = lit≤ tt
 number-most (refusals.full_loan loan place) h = lit≤ tt
-number-most refusals.longMessage h = lit≤ tt
-number-most refusals.lostState h = lit≤ tt
-number-most (refusals.malformedRow row) h = absurd h
-number-most (refusals.unwritableRow row) h = absurd h
+number-most refusals.long_message h = lit≤ tt
+number-most refusals.lost_state h = lit≤ tt
+number-most (refusals.malformed_row row) h = absurd h
+number-most (refusals.unwritable_row row) h = absurd h
 
 -- so the number of what can be said is at most 12
 sayable-most : (n told place : ℕ) → T (refusals.sayable n told place) → n ≤ refusals.lost
@@ -344,9 +344,9 @@ rows-fault R B = two-low (faulty rows_most row_width (length R)) (faulty store_m
 -- how rows are tested
 data Row (rows : ℕ) : Tested → Type 0 where
   good : Row rows fine
-  thirteen : {row : ℕ} → row < rows → Row rows (unfitRow refusals.malformed row)
-  zeroth : rows ≡ 0 → Row rows (unfitRow refusals.malformed 0)
-  fourteen : {row : ℕ} → row < rows → Row rows (unfitRow refusals.unwritable row)
+  thirteen : {row : ℕ} → row < rows → Row rows (unfit_row refusals.malformed row)
+  zeroth : rows ≡ 0 → Row rows (unfit_row refusals.malformed 0)
+  fourteen : {row : ℕ} → row < rows → Row rows (unfit_row refusals.unwritable row)
 
 -- by a test
 row-cond : {rows : ℕ} {x y : Tested} (t : Bool) → Row rows x → Row rows y → Row rows (cond t x y)
@@ -367,7 +367,7 @@ row-tested R B = on-number (rows_in R) 0 (λ q e. rw e (zeroth q)) (λ e. rw e (
 
 module _ (R B out : List ℕ) where
   -- a row that fails its test
-  unfits : (x : Tested) (n row : ℕ) → Row (rows_in R) x → x ≡ unfitRow n row → WriteRefuses (rows_in R) (length out) n row 0
+  unfits : (x : Tested) (n row : ℕ) → Row (rows_in R) x → x ≡ unfit_row n row → WriteRefuses (rows_in R) (length out) n row 0
   unfits x n row good e = clash cc
   unfits x n row (thirteen {row = r} h) e = let u : refusals.malformed ≡ n = cc in let v : r ≡ row = cc in rw (← u, ← v) (misshapes h)
   unfits x n row (zeroth h) e = let u : refusals.malformed ≡ n = cc in let v : 0 ≡ row = cc in rw (← u, ← v) (empties h)

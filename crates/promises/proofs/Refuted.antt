@@ -16,7 +16,6 @@ use Rattle.rows.specs.Memory.{Memory, memory, zeroed, fault_of, message_limit, o
 use Rattle.rows.specs.Kinds.{kind_int_vector}
 use Rattle.wire.specs.U29 as u
 use Rattle.wire.specs.Octets.{Bytes}
-use Rattle.utf8.specs.States as x
 use Rattle.utf8.specs.Grammar as g
 use Rattle.format.specs.Refusals as no
 use Rattle.format.specs.declared.Answer.{Answer}

@@ -29,7 +29,7 @@ use Rattle.format.specs.Decide.{give, lost, trait_at, names_to, strings_to, obje
 use Rattle.format.specs.Decide.{stored, text_end, entered, referred, trait_holds, old_trait, named, trait_end, sealed_key}
 use Rattle.format.specs.Reading.{finished, refused, taken}
 use Rattle.format.specs.Step.{assoc, dynamics, Items, dense, vector, count_of, Task, pairs_of, items_of, members_of, keys_of, values_of, strange, task_of}
-use Rattle.format.specs.Step.{Use, for_name, Word, integerWord, objectWord, size_word, text_word, Mode, at_marker, at_word, at_number, at_flag, at_text, at_raw, astray}
+use Rattle.format.specs.Step.{Use, for_name, Word, integer_word, object_word, size_word, text_word, Mode, at_marker, at_word, at_number, at_flag, at_text, at_raw, astray}
 use Rattle.format.specs.Step.{State, wait, over, go, entry, pop, naming, had, text_done, string_sized, body_sized, object_shaped, worded, act}
 use Rattle.format.specs.Numbers.{Numbers, state_of, lent_of}
 use Rattle.format.specs.Answers.{fed, feed_call}
@@ -315,21 +315,21 @@ module _ (b : ℕ) (ts : List Frame) (c : Cursor) (m : Memory) (h : Room (taken 
   object-lost : (x : Word) (left part n i : ℕ) → part_of left part b ≡ Whole n → Refers x n i → i < c.objects → (ObjectIn i c m → ⊥)
       → Lostly (act (at_word x left part) b ts (taken c) m)
   unfolding act worded object_shaped body_sized
-  object-lost (integerWord row) left part n i e r o f = absurd r
-  object-lost (objectWord row) left part n i e r o f = (zeroed m, rw (e, r, referred-lost (taken c) row i m h o f))
+  object-lost (integer_word row) left part n i e r o f = absurd r
+  object-lost (object_word row) left part n i e r o f = (zeroed m, rw (e, r, referred-lost (taken c) row i m h o f))
   object-lost (size_word row body) left part n i e r o f = (zeroed m, rw (e, r, referred-lost (taken c) row i m h o f))
   object-lost (text_word u) left part n i e r o f = absurd r
 
   module _ (row left part n i : ℕ) (e : part_of left part b ≡ Whole n) (q : shape_of n ≡ Known i) (l : RowIn row c) (r : c.objects < length m.objects) (o : i < c.traits) where
     -- a trait by number that strays is 12
-    trait_lost : (TraitIn (trait_at m.traits i) c → ⊥) → Lostly (act (at_word (objectWord row) left part) b ts (taken c) m)
+    trait_lost : (TraitIn (trait_at m.traits i) c → ⊥) → Lostly (act (at_word (object_word row) left part) b ts (taken c) m)
     unfolding act worded object_shaped
     trait_lost f =
         rw (e, q, entered-gives (taken c) row m.objects l r, old_trait_lost (objects_to (taken c) (c.objects + 1)) i m.traits h.traits o f) (_, refl)
 
     -- and so is the name of its first member
     trait_name-lost : TraitIn (trait_at m.traits i) c → 0 < (trait_at m.traits i).count → (NameIn (trait_at m.traits i).first c m → ⊥)
-        → Lostly (act (at_word (objectWord row) left part) b ts (taken c) m)
+        → Lostly (act (at_word (object_word row) left part) b ts (taken c) m)
     unfolding act worded object_shaped
     trait_name-lost t p f =
         let z : (trait_at m.traits i).first + 0 ≡ (trait_at m.traits i).first = omega arith in

@@ -32,8 +32,8 @@ use Rattle.format.specs.Decide.{Out, lift, class_of, trait_at, trait_of, names_t
 use Rattle.format.specs.Decide.{Body, xml, date, array, bytes, raw, objects, dictionary, Kind, leaf, integer, double, string, object, sized, kind_of}
 use Rattle.format.specs.Reading.{finished, refused, taken}
 use Rattle.format.specs.Step.{Pairing, assoc, dynamics, count_of, Task, pairs_of, items_of, members_of, keys_of, values_of, strange, Use}
-use Rattle.format.specs.Step.{for_string, for_key, for_class, for_external, for_name, for_vector, Text, xml_text, table_text, Word, integerWord, objectWord}
-use Rattle.format.specs.Step.{size_word, text_word, Number, doubleBits, dateBits, Flag, raw_flag, objectsFlag, dictionaryFlag, Raw, byte_array, raw_vector, vector}
+use Rattle.format.specs.Step.{for_string, for_key, for_class, for_external, for_name, for_vector, Text, xml_text, table_text, Word, integer_word, object_word}
+use Rattle.format.specs.Step.{size_word, text_word, Number, double_bits, date_bits, Flag, raw_flag, objects_flag, dictionary_flag, Raw, byte_array, raw_vector, vector}
 use Rattle.format.specs.Step.{Mode, at_marker, at_word, at_number, at_flag, at_text, at_raw, astray, State, wait, over, on}
 use Rattle.format.specs.Step.{go, entry, pop, onward, keyed, naming, had, text_done, reserved_for, string_sized, roomy, texting}
 use Rattle.format.specs.Step.{raw_row, filling, opened, body_sized, object_shaped, worded, number_done, flag_done, raw_grown, begun, shown, on_part, act}
@@ -268,15 +268,15 @@ module _ {w : Watch} (ts : List Frame) where
   -- eight bytes are whole
   twin_number : (d : Number) (bits : ℕ) (c : Cursor) (m : Memory) → Sits w c m → NumberIn d w.from → Twin w ts (number_done ts d bits c m) (number_done [] d bits c m)
   unfolding number_done
-  twin_number (doubleBits row) bits c m h l = twin_ends m (sure_numbered h row bits l)
-  twin_number (dateBits row) bits c m h l = twin_ends m (sure_date h row bits l)
+  twin_number (double_bits row) bits c m h l = twin_ends m (sure_numbered h row bits l)
+  twin_number (date_bits row) bits c m h l = twin_ends m (sure_date h row bits l)
 
   -- a flag is there
   twin_flag : (f : Flag) (b : ℕ) (c : Cursor) (m : Memory) → Sits w c m → FlagIn f w.from → Twin w ts (flag_done ts f b c m) (flag_done [] f b c m)
   unfolding flag_done
   twin_flag (raw_flag row z s) b c m h (l, sp) = twin_on m (sure_flagged h row _ l) (λ x d k a v q. twin_filling (raw_vector row z) s s.size d k a l)
-  twin_flag (objectsFlag row n) b c m h l = twin_on m (sure_flagged h row _ l) (λ x d k a v q. waits)
-  twin_flag (dictionaryFlag row n) b c m h l = twin_on m (sure_flagged h row _ l) (λ x d k a v q. twin_go (keys_of row n 0) d k a l)
+  twin_flag (objects_flag row n) b c m h l = twin_on m (sure_flagged h row _ l) (λ x d k a v q. waits)
+  twin_flag (dictionary_flag row n) b c m h l = twin_on m (sure_flagged h row _ l) (λ x d k a v q. twin_go (keys_of row n 0) d k a l)
 
   -- a marker is there
   twin_begun : (row : ℕ) (k : Kind) (c : Cursor) (m : Memory) → Sits w c m → Twin w ts (begun ts row k c m) (begun [] row k c m)
@@ -386,13 +386,13 @@ module _ (b : ℕ) (ts : List Frame) (c : Cursor) (m : Memory) where
     twin_body row body (New k) q h l = twin_on ts m (sure_entered h row l) (λ x d j a v q. twin_opened ts row body k d j a l)
 
     -- an object word is whole
-    twin_object : (row : ℕ) (z : Shape) → shape_of n ≡ z → Sits (watch (at_word (objectWord row) left part)) (taken c) m → RowIn row c
-        → Twin (watch (at_word (objectWord row) left part)) ts (object_shaped ts row z (taken c) m) (object_shaped [] row z (taken c) m)
+    twin_object : (row : ℕ) (z : Shape) → shape_of n ≡ z → Sits (watch (at_word (object_word row) left part)) (taken c) m → RowIn row c
+        → Twin (watch (at_word (object_word row) left part)) ts (object_shaped ts row z (taken c) m) (object_shaped [] row z (taken c) m)
     unfolding object_shaped
     twin_object row (Object i) q h l = twin_ends ts m (sure_referred h row i l (λ o f. out.object_entry e q o f))
     twin_object row (Known i) q h l =
         twin_on ts m (sure_entered h row l) (λ x d k a v (g, r).
-        let (((names, traits), store), (loan, table)) = g (still (at_word (objectWord row) left part)) in
+        let (((names, traits), store), (loan, table)) = g (still (at_word (object_word row) left part)) in
         twin_on ts k (sure_old_trait a i (λ o f. out.trait_entry e q r (rw traits at o) (λ y. f (rw table (trait_up v (trait_at m.traits i) y)))))
         (λ t d' k' a' v' ((o, y), u).
         let same : t ≡ trait_at m.traits i = y ∙ ap (λ (U : List ℕ). trait_at U i) table in
@@ -406,8 +406,8 @@ module _ (b : ℕ) (ts : List Frame) (c : Cursor) (m : Memory) where
     twin_word : (x : Word) → Sits (watch (at_word x left part)) (taken c) m → WordIn x (taken c)
         → Twin (watch (at_word x left part)) ts (worded ts x n (taken c) m) (worded [] x n (taken c) m)
     unfolding worded
-    twin_word (integerWord row) h l = twin_ends ts m (sure_integer h row n l)
-    twin_word (objectWord row) h l = twin_object row (shape_of n) refl h l
+    twin_word (integer_word row) h l = twin_ends ts m (sure_integer h row n l)
+    twin_word (object_word row) h l = twin_object row (shape_of n) refl h l
     twin_word (size_word row body) h l = twin_body row body (size_of n) refl h l
     twin_word (text_word u) h l = twin_string u (size_of n) refl h l
 

@@ -1,17 +1,15 @@
 -- Values that are finished, one around the other: a turn takes the innermost frame, and the same comes from the others as from all.
 use mathlib.Core.Path.{◌≡◌, refl, sym, ap, ◌∙◌}
-use mathlib.Core.List.{List, [], ◌∷◌}
+use mathlib.Core.List.{List, []}
 use Prim.Native.Nat.{ℕ, zero, suc, ◌-◌, ◌<◌, ◌≤◌}
 use native.Mathlib.Omega.{arith}
 use lib.ListN.{length}
-use denote.Enum.Declared.{tag_of}
 use Rattle.rows.specs.declared.Cursor.{Cursor}
 use Rattle.rows.specs.Memory.{Memory, memory}
 use Rattle.format.specs.declared.Frame.{Frame}
 use Rattle.format.specs.Step.{Task, task_of, State, go, entry, pop}
 use Rattle.format.specs.Numbers.{frame_at, frames_of}
 use Rattle.decide.specs.declared.Refusal.{Refusal}
-use Rattle.resume.specs.contracts.Next as next
 use Rattle.resume.specs.declared.Next.{Next}
 use Rattle.resume.specs.declared.Next.TheVariants.{Finished, Refused}
 use Rattle.resume.specs.declared.Entry.{Entry}

@@ -1,9 +1,8 @@
 -- A task goes on: what comes when its value is finished comes after it as it would be with nothing around.
 use mathlib.Core.Path.{◌≡◌, refl, sym, ap, ◌∙◌}
-use mathlib.Core.List.{List, [], ◌∷◌}
+use mathlib.Core.List.{List}
 use Prim.Native.Nat.{ℕ, zero, suc, ◌+◌}
 use native.Mathlib.Omega.{arith}
-use denote.Enum.Declared.{tag_of}
 use Rattle.rows.specs.declared.Cursor.{Cursor}
 use Rattle.rows.specs.Memory.{Memory}
 use Rattle.format.specs.declared.Frame.{Frame}
@@ -11,7 +10,6 @@ use Rattle.format.specs.Decide.{Out, stop, give, on_rows, looking, closed, seale
 use Rattle.format.specs.Reading.{finished, refused}
 use Rattle.format.specs.Step.{Task, pairs_of, items_of, members_of, keys_of, values_of, strange, State, wait, over, none, on, go, pop}
 use Rattle.format.specs.Numbers.{frames_of}
-use Rattle.resume.specs.contracts.Next as next
 use Rattle.resume.specs.declared.Next.{Next}
 use Rattle.resume.specs.declared.Next.TheVariants.{Wait, Finished, Refused}
 use Rattle.resume.specs.Steps.{After, after, after_of, settled, ended}

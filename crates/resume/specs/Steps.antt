@@ -1,5 +1,5 @@
 -- What a step's function answers, as the definition has it: the next state beside its frames and the loans.
-use Rattle.std.specs.Prelude.{◌≡◌, cond, List, [], ◌∷◌, ℕ, ◌<◌, leb, eqb, length}
+use Rattle.std.specs.Prelude.{◌≡◌, cond, List, [], ◌∷◌, ℕ, eqb, length}
 use types.Run.{OneOf}
 use Rattle.rows.specs.declared.Cursor.{Cursor}
 use Rattle.rows.specs.declared.Span.{Span}
@@ -8,11 +8,8 @@ use Rattle.format.specs.declared.Frame.{Frame}
 use Rattle.format.specs.declared.Work.{Work}
 use Rattle.decide.specs.declared.Refusal.{Refusal}
 use Rattle.format.specs.Reading.{finished, refused, refusal}
-use Rattle.format.specs.Decide.{Out, give, Body, xml, date, array, bytes, raw, objects, dictionary, four, eight, bodied, grown}
-use Rattle.format.specs.Step.{Task, task_of, State, wait, over, none, assoc, dynamics, Use, for_string, for_key, for_class, for_external, for_name, for_vector}
-use Rattle.format.specs.Step.{Word, integerWord, objectWord, size_word, text_word, xml_text, table_text, Number, doubleBits, dateBits, Flag, raw_flag, objectsFlag}
-use Rattle.format.specs.Step.{dictionaryFlag, Raw, byte_array, raw_vector}
-use Rattle.format.specs.Step as step
+use Rattle.format.specs.Decide.{Out, give, four, eight, bodied, grown}
+use Rattle.format.specs.Step.{Task, task_of, State, wait, over, none}
 use Rattle.decide.specs.declared.Text.{Text}
 use Rattle.decide.specs.declared.Text.TheVariants as text
 use Rattle.format.specs.Numbers.{work_of, laid, frames_of}

@@ -17,7 +17,7 @@ use Rattle.utf8.proofs.Fold.{fold_valid}
 use Rattle.decide.specs.declared.Refusal.{Refusal}
 use Rattle.decide.specs.Outcomes.{stopped}
 use Rattle.format.specs.Decide.{give, Width, width_of, on_rows, grown}
-use Rattle.format.specs.Reading.{Reader, ok, byte, taken, fill, chars, filled, chars_of, ret, by, ◌>>=◌}
+use Rattle.format.specs.Reading.{Reader, ok, taken, fill, chars, filled, chars_of, ret, by, ◌>>=◌}
 use Rattle.format.proofs.Stores.{place, stored_there}
 use Rattle.scan.specs.Reads.{result, cleared, reads, short_at, moved_to}
 use Rattle.scan.proofs.Then.{refused}

@@ -1,5 +1,5 @@
 -- How many values may be open, by the mode and its purpose.
-use mathlib.Core.Path.{◌≡◌, refl, sym, ap, ◌∙◌}
+use mathlib.Core.Path.{◌≡◌, sym, ◌∙◌}
 use mathlib.Core.Bool.{Bool, true, false, not, ◌&&◌}
 use Prim.Native.Nat.{suc, ℕ, ◌≤◌, ◌<◌}
 use native.Mathlib.Omega.{arith}
@@ -9,7 +9,7 @@ use borrow.Author.Tests.{not-true, not-false, ne_eqb, lt-leb, le-leb, lt-ltb, le
 use Rattle.rows.specs.declared.Cursor.{Cursor}
 use Rattle.rows.specs.Memory.{open_limit}
 use Rattle.format.specs.declared.Work.{Work}
-use Rattle.format.specs.Step.{Mode, astray}
+use Rattle.format.specs.Step.{astray}
 use Rattle.format.specs.Numbers.{mode_of, depth_fits, mode_fits}
 use Rattle.format.proofs.Tests.{on_bool}
 use Rattle.states.proofs.Modes.{mode-marker, mode-word, mode-number, mode-flag, mode-text, mode-raw, fits_word, fits-number, fits-flag, fits-text, fits-raw}

@@ -7,7 +7,7 @@ use lib.Dec.{eqb}
 use borrow.Author.Tests.{eqb-false, ne_eqb, lt-leb}
 use Rattle.format.specs.declared.Work.{Work}
 use Rattle.format.specs.Step.{Use, for_external, Text, xml_text, table_text}
-use Rattle.format.specs.Step.{Word, integerWord, text_word, Number, doubleBits, Flag, objectsFlag}
+use Rattle.format.specs.Step.{Word, integer_word, text_word, Number, double_bits, Flag, objects_flag}
 use Rattle.format.specs.Step.{Raw, byte_array, at_word, at_number}
 use Rattle.rows.specs.Memory.{no_span}
 use Rattle.format.specs.Numbers.{body_purpose, work, no_trait, no_work, work_of}
@@ -69,7 +69,7 @@ texts {A} a w f h = by (eqb w.purpose purpose_xml) (eqb-false w.purpose purpose_
     by false n = uses a w (λ u. f (table_text u)) (h (n refl)) ∙ ap f (sym (uses (xml_text 0) w table_text (h (n refl))))
 
 abbrev pub word_of : Work → Word
-word_of w = with_word (integerWord 0) w (λ x. x)
+word_of w = with_word (integer_word 0) w (λ x. x)
 
 pub words : {A : Type 0} (a : A) (w : Work) (f : Word → A) → IsWord w → with_word a w f ≡ f (word_of w)
 words a w f h =
@@ -78,14 +78,14 @@ words a w f h =
     w.purpose (omega arith) (omega arith)
 
 abbrev pub number_of : Work → Number
-number_of w = with_number (doubleBits 0) w (λ x. x)
+number_of w = with_number (double_bits 0) w (λ x. x)
 
 pub numbers : {A : Type 0} (a : A) (w : Work) (f : Number → A) → IsNumber w → with_number a w f ≡ f (number_of w)
 numbers a w f h =
     between (λ p. with_number a (purposed w p) f ≡ f (number_of (purposed w p))) 1 2 (refl, (refl, tt)) w.purpose (omega arith) (omega arith)
 
 abbrev pub flag_of : Work → Flag
-flag_of w = with_flag (objectsFlag 0 0) w (λ x. x)
+flag_of w = with_flag (objects_flag 0 0) w (λ x. x)
 
 pub flags : {A : Type 0} (a : A) (w : Work) (f : Flag → A) → IsFlag w → with_flag a w f ≡ f (flag_of w)
 flags a w f h =

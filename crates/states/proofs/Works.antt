@@ -1,15 +1,15 @@
 -- What the work of a sound state works with, by its mode and its purpose.
 use mathlib.Core.Path.{◌≡◌, refl, sym, ap, ◌∙◌}
 use mathlib.Core.Bool.{Bool, true, false, cond, ◌&&◌, ◌||◌}
-use Prim.Native.Nat.{ℕ, ◌+◌, ◌≤◌, ◌<◌}
+use Prim.Native.Nat.{◌≤◌, ◌<◌}
 use native.Mathlib.Omega.{arith}
 use lib.Dec.{leb, ltb, eqb}
 use borrow.Author.Tests.{eq-eqb, ne_eqb, lt-leb, le-leb}
 use Rattle.rows.specs.declared.Cursor.{Cursor}
 use Rattle.rows.specs.Memory.{span_used}
 use Rattle.format.specs.declared.Work.{Work}
-use Rattle.format.specs.Step.{Mode, at_marker, at_word, at_text, astray, Use, for_string, for_key, for_class, for_external, for_name, for_vector, assoc, dynamics}
-use Rattle.format.specs.Step.{text_word, table_text}
+use Rattle.format.specs.Step.{Mode, at_text, astray, Use, for_string, for_key, for_class, for_external, for_name, for_vector, assoc, dynamics}
+use Rattle.format.specs.Step.{table_text}
 use Rattle.wire.specs.U29.{word_more, word_bits}
 use Rattle.wire.specs.Big.{number_more, number_bits}
 use Rattle.utf8.specs.States.{text_broken}

@@ -9,58 +9,58 @@ use Rattle.utf8.specs.Tables.{class_of, table_fold}
 use Rattle.utf8.specs.Ladder.{start_of, within_of, ladder_step, ladder_fold}
 
 -- octets, and a state
-infix 20 ◌leadTo◌
+infix 20 ◌lead_to◌
 data Leads : Type 0 where
-  ◌leadTo◌ : List ℕ → ℕ → Leads
+  ◌lead_to◌ : List ℕ → ℕ → Leads
 
 abbrev state : Leads → ℕ
-state (s leadTo k) = k
+state (s lead_to k) = k
 
 -- the state that a fold gives in its place
 abbrev found : (List ℕ → ℕ) → Leads → ℕ
-found fold (s leadTo k) = fold s
+found fold (s lead_to k) = fold s
 
 abbrev examples : List Leads
 examples =
     -- a character of each form, and the ends of the forms
-    ([] leadTo 0)
-    ∷ ((0x00 ∷ []) leadTo 0)
-    ∷ ((0x41 ∷ []) leadTo 0)
-    ∷ ((0x7F ∷ []) leadTo 0)
-    ∷ ((0xC2 ∷ 0x80 ∷ []) leadTo 0)
-    ∷ ((0xC3 ∷ 0xA9 ∷ []) leadTo 0)
-    ∷ ((0xDF ∷ 0xBF ∷ []) leadTo 0)
-    ∷ ((0xE0 ∷ 0xA0 ∷ 0x80 ∷ []) leadTo 0)
-    ∷ ((0xED ∷ 0x9F ∷ 0xBF ∷ []) leadTo 0)
-    ∷ ((0xEE ∷ 0x80 ∷ 0x80 ∷ []) leadTo 0)
-    ∷ ((0xEF ∷ 0xBF ∷ 0xBF ∷ []) leadTo 0)
-    ∷ ((0xF0 ∷ 0x90 ∷ 0x80 ∷ 0x80 ∷ []) leadTo 0)
-    ∷ ((0xF4 ∷ 0x8F ∷ 0xBF ∷ 0xBF ∷ []) leadTo 0)
+    ([] lead_to 0)
+    ∷ ((0x00 ∷ []) lead_to 0)
+    ∷ ((0x41 ∷ []) lead_to 0)
+    ∷ ((0x7F ∷ []) lead_to 0)
+    ∷ ((0xC2 ∷ 0x80 ∷ []) lead_to 0)
+    ∷ ((0xC3 ∷ 0xA9 ∷ []) lead_to 0)
+    ∷ ((0xDF ∷ 0xBF ∷ []) lead_to 0)
+    ∷ ((0xE0 ∷ 0xA0 ∷ 0x80 ∷ []) lead_to 0)
+    ∷ ((0xED ∷ 0x9F ∷ 0xBF ∷ []) lead_to 0)
+    ∷ ((0xEE ∷ 0x80 ∷ 0x80 ∷ []) lead_to 0)
+    ∷ ((0xEF ∷ 0xBF ∷ 0xBF ∷ []) lead_to 0)
+    ∷ ((0xF0 ∷ 0x90 ∷ 0x80 ∷ 0x80 ∷ []) lead_to 0)
+    ∷ ((0xF4 ∷ 0x8F ∷ 0xBF ∷ 0xBF ∷ []) lead_to 0)
     -- cut: that many tails to come, or a second octet
-    ∷ ((0xC3 ∷ []) leadTo 1)
-    ∷ ((0xE0 ∷ 0xA0 ∷ []) leadTo 1)
-    ∷ ((0xED ∷ 0x9F ∷ []) leadTo 1)
-    ∷ ((0xEF ∷ []) leadTo 2)
-    ∷ ((0xF0 ∷ 0x90 ∷ []) leadTo 2)
-    ∷ ((0xF4 ∷ 0x8F ∷ []) leadTo 2)
-    ∷ ((0xF1 ∷ 0x80 ∷ []) leadTo 2)
-    ∷ ((0xF1 ∷ []) leadTo 3)
-    ∷ ((0xE0 ∷ []) leadTo 4)
-    ∷ ((0xED ∷ []) leadTo 5)
-    ∷ ((0xF0 ∷ []) leadTo 6)
-    ∷ ((0xF4 ∷ []) leadTo 7)
+    ∷ ((0xC3 ∷ []) lead_to 1)
+    ∷ ((0xE0 ∷ 0xA0 ∷ []) lead_to 1)
+    ∷ ((0xED ∷ 0x9F ∷ []) lead_to 1)
+    ∷ ((0xEF ∷ []) lead_to 2)
+    ∷ ((0xF0 ∷ 0x90 ∷ []) lead_to 2)
+    ∷ ((0xF4 ∷ 0x8F ∷ []) lead_to 2)
+    ∷ ((0xF1 ∷ 0x80 ∷ []) lead_to 2)
+    ∷ ((0xF1 ∷ []) lead_to 3)
+    ∷ ((0xE0 ∷ []) lead_to 4)
+    ∷ ((0xED ∷ []) lead_to 5)
+    ∷ ((0xF0 ∷ []) lead_to 6)
+    ∷ ((0xF4 ∷ []) lead_to 7)
     -- broken: a tail alone, longer than need be, a surrogate, above 10FFFF, what never appears, a character cut by another
-    ∷ ((0x80 ∷ []) leadTo 8)
-    ∷ ((0xC1 ∷ []) leadTo 8)
-    ∷ ((0xC0 ∷ 0x80 ∷ []) leadTo 8)
-    ∷ ((0xE0 ∷ 0x9F ∷ []) leadTo 8)
-    ∷ ((0xF0 ∷ 0x8F ∷ []) leadTo 8)
-    ∷ ((0xED ∷ 0xA0 ∷ []) leadTo 8)
-    ∷ ((0xF4 ∷ 0x90 ∷ []) leadTo 8)
-    ∷ ((0xF5 ∷ []) leadTo 8)
-    ∷ ((0xFF ∷ []) leadTo 8)
-    ∷ ((0xC3 ∷ 0x41 ∷ []) leadTo 8)
-    ∷ ((0x80 ∷ 0x41 ∷ []) leadTo 8)
+    ∷ ((0x80 ∷ []) lead_to 8)
+    ∷ ((0xC1 ∷ []) lead_to 8)
+    ∷ ((0xC0 ∷ 0x80 ∷ []) lead_to 8)
+    ∷ ((0xE0 ∷ 0x9F ∷ []) lead_to 8)
+    ∷ ((0xF0 ∷ 0x8F ∷ []) lead_to 8)
+    ∷ ((0xED ∷ 0xA0 ∷ []) lead_to 8)
+    ∷ ((0xF4 ∷ 0x90 ∷ []) lead_to 8)
+    ∷ ((0xF5 ∷ []) lead_to 8)
+    ∷ ((0xFF ∷ []) lead_to 8)
+    ∷ ((0xC3 ∷ 0x41 ∷ []) lead_to 8)
+    ∷ ((0x80 ∷ 0x41 ∷ []) lead_to 8)
     ∷ []
 
 by_grammar : map (found (fold_of 0)) examples ≡ map state examples

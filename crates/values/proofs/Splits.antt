@@ -1,9 +1,8 @@
 -- Readings taken apart where their functions are: a beginning, and what it leaves to read.
 use mathlib.Core.Path.{◌≡◌, refl, ap, ◌∙◌}
-use mathlib.Core.List.{List, [], ◌∷◌}
+use mathlib.Core.List.{List}
 use Prim.Native.Nat.{ℕ}
 use lib.ListN.{drop}
-use denote.Enum.Declared.{tag_of}
 use Rattle.rows.specs.declared.Cursor.{Cursor}
 use Rattle.rows.specs.declared.Trait.{Trait}
 use Rattle.rows.specs.Memory.{Memory, col_count, no_key}
@@ -17,10 +16,8 @@ use Rattle.format.specs.Decide.{Out, stop, give, fixed, weak, looking, on_rows, 
 use Rattle.format.specs.Reading.{Result, ok, bad, Reader, Values, bind, by, ret, byte, u29, text, plain, ◌>>=◌, ◌>>◌, entries, couple, members, inlined, object_of, new_of, marked}
 use Rattle.format.specs.Reading as r
 use Rattle.format.proofs.Alike.{flat}
-use Rattle.parts.specs.contracts.Sized as sized·type
 use Rattle.parts.specs.declared.Sized.{Sized}
 use Rattle.parts.specs.declared.Sized.TheVariants as sized·is
-use Rattle.parts.specs.contracts.Classed as classed·type
 use Rattle.parts.specs.declared.Classed.{Classed}
 use Rattle.parts.specs.declared.Classed.TheVariants as classed·is
 use Rattle.scan.specs.Reads.{result, cleared, reads, flag}

@@ -1,5 +1,5 @@
 -- U29: up to three bytes give seven bits each, high bit set meaning more; the fourth gives all its eight bits.
-use Rattle.std.specs.Prelude.{cond, List, [], ◌∷◌, ◌++◌, ℕ, zero, suc, ◌+◌, ◌*◌, ◌-◌, ◌^◌, ◌/◌, ◌%◌, leb, ltb, eqb, length, drop}
+use Rattle.std.specs.Prelude.{cond, List, [], ◌∷◌, ◌++◌, ℕ, zero, suc, ◌+◌, ◌*◌, ◌-◌, ◌^◌, ◌/◌, ◌%◌, leb, ltb, eqb, drop}
 use Rattle.wire.specs.declared.Part.{Part}
 use Rattle.wire.specs.declared.Part.TheVariants.{More, Whole, Astray}
 use Rattle.wire.specs.declared.Read.{Read}

@@ -1,14 +1,12 @@
 -- An object word that is no reference: the object is entered, and its trait follows. What a size word says is small.
 use mathlib.Core.Path.{◌≡◌, refl}
 use mathlib.Core.Bool.{Bool, true, false, cond}
-use mathlib.Core.List.{List, [], ◌∷◌}
+use mathlib.Core.List.{List}
 use Prim.Native.Nat.{ℕ, ◌/◌, ◌^◌, ◌<◌}
 use native.Mathlib.Omega.{arith}
 use lib.Dec.{eqb}
-use denote.Enum.Declared.{tag_of}
 use Rattle.rows.specs.declared.Cursor.{Cursor}
 use Rattle.rows.specs.Memory.{Memory}
-use Rattle.wire.specs.contracts.Shape as shape
 use Rattle.wire.specs.declared.Shape.{Shape}
 use Rattle.wire.specs.declared.Shape.TheVariants.{Object, Known, External, Inline}
 use Rattle.wire.specs.declared.Size.TheVariants.{Old, New}

@@ -9,7 +9,7 @@ use lib.Dec.{leb}
 use lib.ListN.{length, set, take, drop}
 use lib.Seq.{sets, slice, sets-eq, length-sets, take-length, take-append_seam}
 use Rattle.wire.specs.declared.Put as wire
-use Rattle.wire.specs.declared.Put.TheVariants as wirePut
+use Rattle.wire.specs.declared.Put.TheVariants as wire_put
 use Rattle.wire.specs.Put.{with1, put_at}
 use Rattle.format.specs.Writing.{these, stream_bytes}
 use Rattle.format.proofs.Tests.{clash}
@@ -62,13 +62,13 @@ module _ (dry : Bool) (at : ℕ) (O : List ℕ) where
 
 module _ (blank bs : List ℕ) {F : List ℕ} {p : wire.Put} (e : with1 p F ≡ put_at blank 0 bs) where
   -- it has room there
-  pub form-room : length bs ≤ length blank → p ≡ wirePut.Full → ⊥
+  pub form-room : length bs ≤ length blank → p ≡ wire_put.Full → ⊥
   unfolding put_at
-  form-room l f = let q : with1 p F ≡ with1 (wirePut.At (0 + length bs)) (sets blank 0 bs) = rw (le-leb (0 + length bs) (length blank) (omega arith)) at e in clash cc
+  form-room l f = let q : with1 p F ≡ with1 (wire_put.At (0 + length bs)) (sets blank 0 bs) = rw (le-leb (0 + length bs) (length blank) (omega arith)) at e in clash cc
 
-  module _ {size : ℕ} (f : p ≡ wirePut.At size) where
+  module _ {size : ℕ} (f : p ≡ wire_put.At size) where
     taken : (t : Bool) → leb (0 + length bs) (length blank) ≡ t
-        → with1 p F ≡ cond t (with1 (wirePut.At (0 + length bs)) (sets blank 0 bs)) (with1 wirePut.Full blank)
+        → with1 p F ≡ cond t (with1 (wire_put.At (0 + length bs)) (sets blank 0 bs)) (with1 wire_put.Full blank)
         → (size ≡ length bs) × (F ≡ sets blank 0 bs) × (length bs ≤ length blank)
     taken true l q =
         let a : size ≡ 0 + length bs = cc in

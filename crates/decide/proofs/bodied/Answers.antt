@@ -1,10 +1,10 @@
+-- A used row has its body.
 use native.Mathlib.Omega.{arith}
 use mathlib.Core.Path.{sym, ◌∙◌}
 use lib.ListN.{length, length-set}
 use Rattle.format.specs.Decide.{bodied}
 use Rattle.decide.proofs.Rows.{used-row}
 use Rattle.decide.proofs.Refusals.{stops}
-use borrow.Author.Rules.{rules}
 use Rattle.decide.proofs.bodied.Goals as goal
 
 pub overflow_mul-rows : goal.overflow_mul-rows

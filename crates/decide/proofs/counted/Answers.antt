@@ -1,13 +1,13 @@
+-- An entry more, with a row of its own.
 use native.Mathlib.Omega.{arith}
 use mathlib.Core.Path.{sym, ◌∙◌}
 use Prim.Native.Nat.{◌+◌, ◌*◌}
 use lib.ListN.{length}
-use borrow.Author.Tests.{le-leb, lt-leb, not-true, not-false}
+use borrow.Author.Tests.{le-leb, lt-leb}
 use lib.Seq.{set_out}
 use Rattle.format.specs.Decide.{counted}
 use Rattle.decide.proofs.Rows.{used-row}
 use Rattle.decide.proofs.Refusals.{stops}
-use borrow.Author.Rules.{rules}
 use Rattle.decide.proofs.counted.Goals as goal
 
 pub returns-then-c-done : goal.returns-then-c-done

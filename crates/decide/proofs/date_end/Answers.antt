@@ -1,9 +1,9 @@
+-- The bits of a date.
 use mathlib.Core.Path.{sym, ◌∙◌}
 use borrow.Author.Tests.{not-true, not-false}
 use Rattle.wire.specs.Date.{refused_date}
 use Rattle.format.specs.Decide.{date_end}
 use Rattle.decide.proofs.Refusals.{stops}
-use borrow.Author.Rules.{rules}
 use Rattle.decide.proofs.date_end.Goals as goal
 
 pub returns-then-not-row_used : goal.returns-then-not-row_used

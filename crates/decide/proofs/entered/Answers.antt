@@ -1,8 +1,8 @@
+-- A row enters the objects.
 use mathlib.Core.Path.{sym}
 use borrow.Author.Tests.{le-leb, lt-leb, lt-ltb, le-ltb}
 use Rattle.format.specs.Decide.{entered}
 use Rattle.decide.proofs.Refusals.{stops}
-use borrow.Author.Rules.{rules}
 use Rattle.decide.proofs.entered.Goals as goal
 
 pub returns-then-c-row : goal.returns-then-c-row

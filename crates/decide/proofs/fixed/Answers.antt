@@ -1,3 +1,4 @@
+-- Any byte but 0.
 use mathlib.Core.Path.{sym}
 use borrow.Author.Tests.{eq-eqb, ne_eqb}
 use Rattle.decide.proofs.fixed.Goals as goal

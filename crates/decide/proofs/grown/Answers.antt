@@ -1,3 +1,4 @@
+-- A used row counts its entries.
 use native.Mathlib.Omega.{arith}
 use mathlib.Core.Path.{sym, ◌∙◌}
 use lib.ListN.{length}
@@ -5,7 +6,6 @@ use Rattle.format.specs.Decide.{grown}
 use Rattle.decide.proofs.Rows.{used-row}
 use Rattle.decide.proofs.Refusals.{stops}
 use Rattle.decide.proofs.Widths.{width_some}
-use borrow.Author.Rules.{rules}
 use Rattle.decide.proofs.grown.Goals as goal
 
 pub nonzero_div-rows : goal.nonzero_div-rows

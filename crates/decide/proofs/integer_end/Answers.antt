@@ -1,3 +1,4 @@
+-- The number of an integer.
 use mathlib.Core.Path.{ap, ◌∙◌}
 use Prim.Native.Nat.{ℕ}
 use mir.Syntax.{w64}
@@ -5,7 +6,6 @@ use mir.ValLaws.{to_z-of_z}
 use Rattle.wire.specs.Sign.{column_of}
 use Rattle.format.specs.Decide.{numbered, integer_end}
 use Rattle.decide.specs.Outcomes.{leaving}
-use borrow.Author.Rules.{rules}
 use Rattle.decide.proofs.integer_end.Goals as goal
 
 pub returns : goal.returns

@@ -1,7 +1,7 @@
+-- Valid or refused.
 use mathlib.Core.Path.{sym}
 use Rattle.format.specs.Decide.{judged}
 use Rattle.decide.proofs.Refusals.{stops}
-use borrow.Author.Rules.{rules}
 use Rattle.decide.proofs.judged.Goals as goal
 
 pub returns-then-valid : goal.returns-then-valid

@@ -1,8 +1,8 @@
+-- A pair's key is finished in a used row.
 use mathlib.Core.Path.{sym, ◌∙◌}
 use borrow.Author.Tests.{le-leb, lt-leb}
 use Rattle.format.specs.Decide.{key_end}
 use Rattle.decide.proofs.Refusals.{stops}
-use borrow.Author.Rules.{rules}
 use Rattle.decide.proofs.key_end.Goals as goal
 
 pub returns-then-c-done : goal.returns-then-c-done

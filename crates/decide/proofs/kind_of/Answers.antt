@@ -1,3 +1,4 @@
+-- The tests of the marker's number, and the table.
 use mathlib.Core.Path.{sym, ◌∙◌}
 use borrow.Author.Tests.{eq-eqb, ne_eqb, lt-ltb, le-ltb}
 use Rattle.decide.proofs.Markers.{kind-by}

@@ -1,3 +1,4 @@
+-- Below the marker of an integer.
 use mathlib.Core.Path.{sym}
 use borrow.Author.Tests.{lt-ltb, le-ltb}
 use Rattle.decide.proofs.leaf_end.Goals as goal

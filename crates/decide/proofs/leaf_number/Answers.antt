@@ -1,3 +1,4 @@
+-- Only true.
 use mathlib.Core.Path.{sym}
 use borrow.Author.Tests.{eq-eqb, ne_eqb}
 use Rattle.decide.proofs.leaf_number.Goals as goal

@@ -1,10 +1,10 @@
+-- A row for the value, unless it is refused.
 use mathlib.Core.Path.{sym}
 use Prim.Native.Nat.{ℕ}
 use borrow.Author.Tests.{eq-eqb, ne_eqb, le-leb, lt-leb, lt-ltb, le-ltb}
 use Rattle.rows.specs.Memory.{put_row}
 use Rattle.format.specs.Decide.{marker, new_row}
 use Rattle.decide.proofs.Refusals.{stops}
-use borrow.Author.Rules.{rules}
 use Rattle.decide.proofs.marker.Goals as goal
 
 pub returns-then-rows-used : goal.returns-then-rows-used

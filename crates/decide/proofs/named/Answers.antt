@@ -1,9 +1,9 @@
+-- A name enters the names.
 use mathlib.Core.Path.{sym}
 use borrow.Author.Tests.{le-leb, lt-leb, lt-ltb, le-ltb}
 use Rattle.rows.specs.declared.Span.{Span}
 use Rattle.format.specs.Decide.{named}
 use Rattle.decide.proofs.Refusals.{stops}
-use borrow.Author.Rules.{rules}
 use Rattle.decide.proofs.named.Goals as goal
 
 pub returns-then-names-used : goal.returns-then-names-used

@@ -1,8 +1,8 @@
+-- The refusal, where the answer is one.
 use mathlib.Core.Path.{sym, ap, ◌∙◌}
 use Rattle.decide.specs.declared.Refusal.{Refusal}
 use Rattle.decide.specs.declared.Whether.{Whether}
 use Rattle.decide.specs.declared.Whether.TheVariants.{Is, No}
-use borrow.Author.Rules.{rules}
 use Rattle.decide.proofs.no_flag.Goals as goal
 
 abbrev why : Whether → Refusal

@@ -1,8 +1,8 @@
+-- The refusal, where the answer is one.
 use mathlib.Core.Path.{sym, ap, ◌∙◌}
 use Rattle.decide.specs.declared.Refusal.{Refusal}
 use Rattle.decide.specs.declared.Keyed.{Keyed}
 use Rattle.decide.specs.declared.Keyed.TheVariants.{With, No}
-use borrow.Author.Rules.{rules}
 use Rattle.decide.proofs.no_key.Goals as goal
 
 abbrev why : Keyed → Refusal

@@ -1,8 +1,8 @@
+-- The refusal, where the answer is one.
 use mathlib.Core.Path.{sym, ap, ◌∙◌}
 use Rattle.decide.specs.declared.Refusal.{Refusal}
 use Rattle.decide.specs.declared.Begun.{Begun}
 use Rattle.decide.specs.declared.Begun.TheVariants.{Row, No}
-use borrow.Author.Rules.{rules}
 use Rattle.decide.proofs.no_row.Goals as goal
 
 abbrev why : Begun → Refusal

@@ -1,8 +1,8 @@
+-- The refusal, where the answer is one.
 use mathlib.Core.Path.{sym, ap, ◌∙◌}
 use Rattle.decide.specs.declared.Refusal.{Refusal}
 use Rattle.decide.specs.declared.Text.{Text}
 use Rattle.decide.specs.declared.Text.TheVariants.{Have, No}
-use borrow.Author.Rules.{rules}
 use Rattle.decide.proofs.no_text.Goals as goal
 
 abbrev why : Text → Refusal

@@ -1,8 +1,8 @@
+-- The refusal, where the answer is one.
 use mathlib.Core.Path.{sym, ap, ◌∙◌}
 use Rattle.decide.specs.declared.Refusal.{Refusal}
 use Rattle.decide.specs.declared.Traited.{Traited}
 use Rattle.decide.specs.declared.Traited.TheVariants.{Known, No}
-use borrow.Author.Rules.{rules}
 use Rattle.decide.proofs.no_trait.Goals as goal
 
 abbrev why : Traited → Refusal

@@ -1,8 +1,8 @@
+-- The refusal, where the answer is one.
 use mathlib.Core.Path.{sym, ap, ◌∙◌}
 use Rattle.decide.specs.declared.Refusal.{Refusal}
 use Rattle.decide.specs.declared.Done.{Done}
 use Rattle.decide.specs.declared.Done.TheVariants.{Fine, Refused}
-use borrow.Author.Rules.{rules}
 use Rattle.decide.proofs.not_done.Goals as goal
 
 abbrev why : Done → Refusal

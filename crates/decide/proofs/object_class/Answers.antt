@@ -1,7 +1,7 @@
+-- With a mark, or none.
 use mathlib.Core.Path.{sym}
 use borrow.Author.Tests.{eq-eqb, ne_eqb}
 use Rattle.format.specs.Decide.{object_class}
-use borrow.Author.Rules.{rules}
 use Rattle.decide.proofs.object_class.Goals as goal
 
 pub returns-then-t-eq0 : goal.returns-then-t-eq0

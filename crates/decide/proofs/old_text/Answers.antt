@@ -1,9 +1,9 @@
+-- A text that is there and used.
 use mathlib.Core.Path.{sym, ◌∙◌}
 use borrow.Author.Tests.{le-leb, lt-leb, lt-ltb, le-ltb}
 use Rattle.rows.specs.declared.Span.{Span}
 use Rattle.format.specs.Decide.{old_text}
 use Rattle.decide.proofs.Refusals.{stops}
-use borrow.Author.Rules.{rules}
 use Rattle.decide.proofs.old_text.Goals as goal
 
 pub returns-then-strings-c : goal.returns-then-strings-c

@@ -1,9 +1,9 @@
+-- A trait that is there and holds.
 use mathlib.Core.Path.{sym, ◌∙◌}
 use borrow.Author.Tests.{le-leb, lt-leb, lt-ltb, le-ltb}
 use Rattle.rows.specs.declared.Trait.{Trait}
 use Rattle.format.specs.Decide.{old_trait}
 use Rattle.decide.proofs.Refusals.{stops}
-use borrow.Author.Rules.{rules}
 use Rattle.decide.proofs.old_trait.Goals as goal
 
 pub returns-then-traits-c : goal.returns-then-traits-c

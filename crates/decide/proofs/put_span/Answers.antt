@@ -1,8 +1,8 @@
+-- Two numbers in their places.
 use native.Mathlib.Omega.{arith}
 use mathlib.Core.Path.{◌≡◌}
 use Prim.Native.Nat.{suc, ◌+◌, ◌*◌}
 use lib.ListN.{length-set}
-use borrow.Author.Rules.{rules}
 use Rattle.decide.proofs.put_span.Goals as goal
 
 pub bounds-table-i-2 : goal.bounds-table-i-2

@@ -1,3 +1,4 @@
+-- Room in a store of a length.
 use native.Mathlib.Omega.{arith}
 use mathlib.Core.Path.{sym}
 use borrow.Author.Tests.{lt-ltb, le-ltb}
@@ -5,7 +6,6 @@ use Rattle.rows.specs.declared.Span.{Span}
 use Rattle.format.specs.Decide.{reserved}
 use Rattle.decide.proofs.Refusals.{stops}
 use Rattle.decide.proofs.Room.{within, fits-room, fits-full}
-use borrow.Author.Rules.{rules}
 use Rattle.decide.proofs.reserved.Goals as goal
 
 pub returns-then-len-used : goal.returns-then-len-used

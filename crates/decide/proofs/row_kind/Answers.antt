@@ -1,6 +1,6 @@
+-- One kind for false and true.
 use mathlib.Core.Path.{sym}
 use borrow.Author.Tests.{lt-ltb, le-ltb}
-use borrow.Author.Rules.{rules}
 use Rattle.decide.proofs.row_kind.Goals as goal
 
 pub returns-then-b-lt-MARKER_TRUE : goal.returns-then-b-lt-MARKER_TRUE

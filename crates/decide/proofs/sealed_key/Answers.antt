@@ -1,9 +1,9 @@
+-- A name that is there and used.
 use mathlib.Core.Path.{sym, ◌∙◌}
 use borrow.Author.Tests.{le-leb, lt-leb, lt-ltb, le-ltb}
 use Rattle.rows.specs.declared.Key.{Key}
 use Rattle.format.specs.Decide.{sealed_key}
 use Rattle.decide.proofs.Refusals.{stops}
-use borrow.Author.Rules.{rules}
 use Rattle.decide.proofs.sealed_key.Goals as goal
 
 pub returns-then-names-c : goal.returns-then-names-c

@@ -1,3 +1,4 @@
+-- One byte, and which.
 use native.Mathlib.Omega.{arith}
 use mathlib.Core.Path.{sym, ◌∙◌}
 use borrow.Author.Tests.{eq-eqb, ne_eqb, lt-ltb, le-ltb}
@@ -5,7 +6,6 @@ use mathlib.Core.Bool.{Bool}
 use Rattle.format.specs.Decide.{starred}
 use Rattle.decide.proofs.Refusals.{stops}
 use Rattle.decide.proofs.Room.{within}
-use borrow.Author.Rules.{rules}
 use Rattle.decide.proofs.starred.Goals as goal
 
 pub returns-then-s-ne1 : goal.returns-then-s-ne1

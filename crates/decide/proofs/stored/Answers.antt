@@ -1,10 +1,10 @@
+-- A byte in its place.
 use native.Mathlib.Omega.{arith}
 use mathlib.Core.Path.{sym, ◌∙◌}
 use borrow.Author.Tests.{le-leb, lt-leb, lt-ltb, le-ltb}
 use Rattle.format.specs.Decide.{stored}
 use Rattle.decide.proofs.Refusals.{stops}
 use Rattle.decide.proofs.Room.{within}
-use borrow.Author.Rules.{rules}
 use Rattle.decide.proofs.stored.Goals as goal
 
 pub returns-then-store-c : goal.returns-then-store-c

@@ -1,9 +1,9 @@
+-- A valid text enters the strings.
 use mathlib.Core.Path.{sym}
-use borrow.Author.Tests.{le-leb, lt-leb, lt-ltb, le-ltb, not-true, not-false}
+use borrow.Author.Tests.{le-leb, lt-leb, lt-ltb, le-ltb}
 use Rattle.rows.specs.declared.Span.{Span}
 use Rattle.format.specs.Decide.{text_end}
 use Rattle.decide.proofs.Refusals.{stops}
-use borrow.Author.Rules.{rules}
 use Rattle.decide.proofs.text_end.Goals as goal
 
 pub returns-then-strings-used : goal.returns-then-strings-used

@@ -1,12 +1,12 @@
+-- A trait that holds enters the traits.
 use native.Mathlib.Omega.{arith}
 use mathlib.Core.Path.{sym, ◌∙◌}
 use Prim.Native.Nat.{◌*◌}
 use lib.ListN.{length-set}
-use borrow.Author.Tests.{le-leb, lt-leb, lt-ltb, le-ltb, not-true, not-false}
+use borrow.Author.Tests.{le-leb, lt-leb, lt-ltb, le-ltb}
 use Rattle.format.specs.Decide.{trait_end}
 use Rattle.decide.proofs.Stores.{five_stored}
 use Rattle.decide.proofs.Refusals.{stops}
-use borrow.Author.Rules.{rules}
 use Rattle.decide.proofs.trait_end.Goals as goal
 
 pub returns-then-traits-used : goal.returns-then-traits-used

@@ -1,7 +1,6 @@
+-- Each part is used.
 use mathlib.Core.Path.{sym, ◌∙◌}
-use borrow.Author.Tests.{not-true, not-false}
 use Rattle.format.specs.Decide.{trait_holds}
-use borrow.Author.Rules.{rules}
 use Rattle.decide.proofs.trait_holds.Goals as goal
 
 pub returns-then-not-fits : goal.returns-then-not-fits

@@ -1,3 +1,4 @@
+-- The first name, or 0.
 use mathlib.Core.Path.{sym}
 use borrow.Author.Tests.{eq-eqb, ne_eqb}
 use Rattle.decide.proofs.trait_of.Goals as goal

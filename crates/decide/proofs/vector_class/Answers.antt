@@ -1,6 +1,6 @@
+-- With a mark, or none.
 use mathlib.Core.Path.{sym}
 use Rattle.format.specs.Decide.{vector_class}
-use borrow.Author.Rules.{rules}
 use Rattle.decide.proofs.vector_class.Goals as goal
 
 pub returns-then-star : goal.returns-then-star

@@ -1,3 +1,4 @@
+-- Only 1.
 use mathlib.Core.Path.{sym}
 use borrow.Author.Tests.{eq-eqb, ne_eqb}
 use Rattle.decide.proofs.weak.Goals as goal

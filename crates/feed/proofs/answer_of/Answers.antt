@@ -1,8 +1,8 @@
+-- By the status, and whether the state has ended.
 use mathlib.Core.Path.{sym, ◌∙◌}
-use borrow.Author.Tests.{eq-eqb, not-true, not-false}
+use borrow.Author.Tests.{eq-eqb}
 use Rattle.format.specs.Numbers.{state_of}
 use Rattle.feed.proofs.Calls.{finished-answer, refused-answer, lost-answer}
-use borrow.Author.Rules.{rules}
 use Rattle.feed.proofs.answer_of.Goals as goal
 
 pub returns-then-h-eq-WAITING : goal.returns-then-h-eq-WAITING

@@ -1,8 +1,8 @@
+-- What the head answers.
 use mathlib.Core.Path.{ap}
 use Rattle.format.specs.Answers.{fed}
 use Rattle.format.specs.declared.Answer.{Answer}
 use Rattle.pieces.specs.States.{numbers}
-use borrow.Author.Rules.{rules}
 use Rattle.feed.proofs.answered.Goals as goal
 
 pub returns : goal.returns

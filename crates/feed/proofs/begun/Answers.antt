@@ -1,8 +1,8 @@
+-- A wrong loan, or a marker is next.
 use mathlib.Core.Path.{◌∙◌}
 use Rattle.rows.specs.Memory.{memory}
 use Rattle.format.specs.Numbers.{lent_of}
 use Rattle.feed.proofs.Calls.{begin-refuses, begin-waits}
-use borrow.Author.Rules.{rules}
 use Rattle.feed.proofs.begun.Goals as goal
 
 pub returns-then-loan-ne0 : goal.returns-then-loan-ne0

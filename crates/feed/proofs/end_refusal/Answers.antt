@@ -1,6 +1,6 @@
+-- By the status.
 use borrow.Author.Tests.{eq-eqb, ne_eqb}
 use Rattle.feed.specs.Calls.{end_refusal}
-use borrow.Author.Rules.{rules}
 use Rattle.feed.proofs.end_refusal.Goals as goal
 
 pub returns-then-h-eq-WAITING : goal.returns-then-h-eq-WAITING

@@ -1,6 +1,6 @@
+-- What has ended stays, or it is refused.
 use mathlib.Core.Path.{sym, ◌∙◌}
 use Rattle.feed.proofs.Calls.{end_stays, end-refuses}
-use borrow.Author.Rules.{rules}
 use Rattle.feed.proofs.ended.Goals as goal
 
 pub returns-then-has_ended : goal.returns-then-has_ended

@@ -1,6 +1,6 @@
+-- The head after the run answers.
 use Rattle.feed.proofs.Calls.{fed_in}
 use Rattle.pieces.proofs.Drives.{ran-parts}
-use borrow.Author.Rules.{rules}
 use Rattle.feed.proofs.fed_in.Goals as goal
 
 pub returns : goal.returns

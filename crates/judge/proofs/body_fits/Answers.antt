@@ -1,7 +1,7 @@
+-- A class, or a body.
 use mathlib.Core.Path.{sym, ◌∙◌}
-use borrow.Author.Tests.{eq-eqb, ne_eqb, not-true, not-false}
+use borrow.Author.Tests.{eq-eqb, ne_eqb}
 use Rattle.judge.specs.Pass.{body_fits}
-use borrow.Author.Rules.{rules}
 use Rattle.judge.proofs.body_fits.Goals as goal
 
 pub returns-then-has_class : goal.returns-then-has_class

@@ -1,7 +1,7 @@
+-- A text, a class, or neither.
 use mathlib.Core.Path.{sym, ◌∙◌}
-use borrow.Author.Tests.{eq-eqb, ne_eqb, not-true, not-false}
+use borrow.Author.Tests.{eq-eqb, ne_eqb}
 use Rattle.format.specs.RowTest.{body_writable}
-use borrow.Author.Rules.{rules}
 use Rattle.judge.proofs.body_writable.Goals as goal
 
 pub returns-then-has_text : goal.returns-then-has_text

@@ -1,7 +1,7 @@
+-- The sum, or the cap.
 use native.Mathlib.Omega.{arith}
 use Prim.Native.Nat.{◌+◌}
 use Rattle.judge.proofs.Counts.{capped-past, capped-whole}
-use borrow.Author.Rules.{rules}
 use Rattle.judge.proofs.capped_sum.Goals as goal
 
 pub returns-then-most-a : goal.returns-then-most-a

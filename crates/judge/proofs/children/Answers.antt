@@ -1,3 +1,4 @@
+-- By the kind: two counts, one, pairs, or none.
 use native.Mathlib.Omega.{arith}
 use mathlib.Core.Path.{sym, ◌∙◌}
 use Prim.Native.Nat.{◌/◌}
@@ -5,7 +6,6 @@ use lib.ListN.{length}
 use borrow.Author.Tests.{eq-eqb, ne_eqb}
 use Rattle.judge.proofs.Counts.{capped-one, capped-pairs, capped-whole}
 use Rattle.format.specs.RowTest.{children}
-use borrow.Author.Rules.{rules}
 use Rattle.judge.proofs.children.Goals as goal
 
 pub returns-then-has_count2 : goal.returns-then-has_count2

@@ -1,8 +1,8 @@
+-- Column after column.
 use mathlib.Core.Path.{sym, ◌∙◌}
-use borrow.Author.Tests.{le-leb, lt-leb, not-true, not-false}
+use borrow.Author.Tests.{le-leb, lt-leb}
 use Rattle.format.specs.RowTest.{columns_fit}
 use Rattle.judge.specs.Pass.{body_fits}
-use borrow.Author.Rules.{rules}
 use Rattle.judge.proofs.columns_fit.Goals as goal
 
 pub returns-then-not-body_fits : goal.returns-then-not-body_fits

@@ -1,3 +1,4 @@
+-- By the kind, then by the number of the child.
 use mathlib.Core.Path.{sym}
 use borrow.Author.Tests.{eq-eqb, ne_eqb, lt-ltb, le-ltb}
 use Rattle.judge.specs.Pass.{gives_by}

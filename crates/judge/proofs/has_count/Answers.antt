@@ -1,5 +1,5 @@
+-- The tests on each way.
 use mathlib.Core.Path.{sym, ◌∙◌}
-use borrow.Author.Rules.{rules}
 use Rattle.judge.proofs.has_count.Goals as goal
 
 pub returns-then-has_count2 : goal.returns-then-has_count2

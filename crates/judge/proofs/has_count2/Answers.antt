@@ -1,3 +1,4 @@
+-- The tests on each way.
 use mathlib.Core.Path.{sym}
 use borrow.Author.Tests.{eq-eqb, ne_eqb}
 use Rattle.judge.proofs.has_count2.Goals as goal

@@ -1,6 +1,6 @@
+-- The tests on each way.
 use mathlib.Core.Path.{sym, ◌∙◌}
 use borrow.Author.Tests.{eq-eqb, ne_eqb}
-use borrow.Author.Rules.{rules}
 use Rattle.judge.proofs.has_number.Goals as goal
 
 pub returns-then-within : goal.returns-then-within

@@ -1,3 +1,4 @@
+-- Below the first bound, or from the second on.
 use mathlib.Core.Path.{sym}
 use borrow.Author.Tests.{lt-ltb}
 use Rattle.format.specs.RowTest.{signed_fits}

@@ -1,6 +1,6 @@
+-- Where it is given a key that is not empty.
 use mathlib.Core.Path.{sym, ◌∙◌}
 use Rattle.judge.specs.Pass.{is_empty}
-use borrow.Author.Rules.{rules}
 use Rattle.judge.proofs.is_empty.Goals as goal
 
 pub returns-then-is_filled : goal.returns-then-is_filled

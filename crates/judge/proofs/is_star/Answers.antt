@@ -1,5 +1,5 @@
+-- By the length, then by the byte.
 use Rattle.judge.proofs.Texts.{star-long, star-one}
-use borrow.Author.Rules.{rules}
 use Rattle.judge.proofs.is_star.Goals as goal
 
 pub returns-then-s-ne-STAR_SIZE : goal.returns-then-s-ne-STAR_SIZE

@@ -1,6 +1,6 @@
+-- Known, or judged.
 use mathlib.Core.Path.{sym}
 use Rattle.judge.proofs.Texts.{same_text}
-use borrow.Author.Rules.{rules}
 use Rattle.judge.proofs.is_text.Goals as goal
 
 pub returns-then-size-known : goal.returns-then-size-known

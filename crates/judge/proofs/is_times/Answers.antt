@@ -1,5 +1,5 @@
+-- By the rest, then by the quotient.
 use Rattle.judge.proofs.Counts.{times_rest, times_whole}
-use borrow.Author.Rules.{rules}
 use Rattle.judge.proofs.is_times.Goals as goal
 
 pub returns-then-size-width-ne0 : goal.returns-then-size-width-ne0

@@ -1,6 +1,6 @@
+-- The mark that it has, and the one that it is given.
 use mathlib.Core.Path.{sym}
 use Rattle.judge.specs.Pass.{is_wrong}
-use borrow.Author.Rules.{rules}
 use Rattle.judge.proofs.is_wrong.Goals as goal
 
 pub returns : goal.returns

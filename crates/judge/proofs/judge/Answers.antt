@@ -1,11 +1,7 @@
-use borrow.Author.Rules.{rules}
+-- The loop's invariant: what is left of the pass is the whole test, and the last texts that were judged are texts.
 use native.Mathlib.Omega.{arith}
-use mathlib.Core.Path.{◌≡◌, sym, ◌∙◌}
-use Prim.Native.Nat.{◌-◌}
-use borrow.Author.Tests.{not-true, not-false}
-use Rattle.format.specs.RowTest.{tested}
-use Rattle.judge.specs.Pass.{pass}
-use Rattle.judge.proofs.Texts.{is_valid, none-valid, last-key-valid, last-body-valid}
+use mathlib.Core.Path.{sym, ◌∙◌}
+use Rattle.judge.proofs.Texts.{none-valid, last-key-valid, last-body-valid}
 use Rattle.judge.proofs.Passing.{fits-ends}
 use Rattle.judge.proofs.Ways.{none_passes, pass-start, pass-end, pass_wrong, pass-unfit, pass-broken, pass-empty, pass-unwritable, pass-more}
 use Rattle.judge.proofs.judge.Goals as goal

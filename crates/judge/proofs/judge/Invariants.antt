@@ -1,13 +1,8 @@
-use borrow.Author.Rules.{rules}
-use native.Mathlib.Omega.{arith}
-use mathlib.Core.Path.{◌≡◌, sym, ◌∙◌}
+use mathlib.Core.Path.{◌≡◌}
 use Prim.Native.Nat.{◌-◌}
-use borrow.Author.Tests.{not-true, not-false}
 use Rattle.format.specs.RowTest.{tested}
 use Rattle.judge.specs.Pass.{pass}
-use Rattle.judge.proofs.Texts.{is_valid, none-valid, last-key-valid, last-body-valid}
-use Rattle.judge.proofs.Passing.{fits-ends}
-use Rattle.judge.proofs.Ways.{none_passes, pass-start, pass-end, pass_wrong, pass-unfit, pass-broken, pass-empty, pass-unwritable, pass-more}
+use Rattle.judge.proofs.Texts.{is_valid}
 use Rattle.judge.proofs.judge.Given as goal
 
 abbrev pub invariant-loop-i : goal.invariant-loop-i

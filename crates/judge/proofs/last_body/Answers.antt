@@ -1,7 +1,7 @@
+-- A text, a class, or the one before.
 use mathlib.Core.Path.{sym, ◌∙◌}
 use borrow.Author.Tests.{eq-eqb, ne_eqb}
 use Rattle.judge.specs.Pass.{last_body}
-use borrow.Author.Rules.{rules}
 use Rattle.judge.proofs.last_body.Goals as goal
 
 pub returns-then-has_text : goal.returns-then-has_text

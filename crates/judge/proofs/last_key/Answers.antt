@@ -1,7 +1,7 @@
+-- The key, or the one before where it is empty.
 use mathlib.Core.Path.{sym}
 use borrow.Author.Tests.{eq-eqb, ne_eqb}
 use Rattle.judge.specs.Pass.{last_key}
-use borrow.Author.Rules.{rules}
 use Rattle.judge.proofs.last_key.Goals as goal
 
 pub returns-then-size-eq0 : goal.returns-then-size-eq0

@@ -1,5 +1,6 @@
+-- The tests on each way.
 use mathlib.Core.Path.{sym}
-use borrow.Author.Tests.{lt-ltb, le-ltb, not-true, not-false}
+use borrow.Author.Tests.{lt-ltb, le-ltb}
 use Rattle.judge.specs.Pass.{lower}
 use Rattle.judge.proofs.lower.Goals as goal
 

@@ -1,7 +1,7 @@
+-- No mark, or a mark with its span.
 use mathlib.Core.Path.{sym}
 use borrow.Author.Tests.{eq-eqb, ne_eqb}
 use Rattle.format.specs.RowTest.{mark_fits}
-use borrow.Author.Rules.{rules}
 use Rattle.judge.proofs.mark_fits.Goals as goal
 
 pub returns-then-begin-ne0 : goal.returns-then-begin-ne0

@@ -1,5 +1,5 @@
+-- Any number, or 0.
 use mathlib.Core.Path.{sym}
-use borrow.Author.Rules.{rules}
 use Rattle.judge.proofs.meant.Goals as goal
 
 pub returns : goal.returns

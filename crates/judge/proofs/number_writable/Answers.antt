@@ -1,7 +1,7 @@
+-- By the kind.
 use mathlib.Core.Path.{sym}
 use borrow.Author.Tests.{eq-eqb, ne_eqb}
 use Rattle.format.specs.RowTest.{number_writable}
-use borrow.Author.Rules.{rules}
 use Rattle.judge.proofs.number_writable.Goals as goal
 
 pub returns-then-kind-eq-INTEGER : goal.returns-then-kind-eq-INTEGER

@@ -1,7 +1,7 @@
+-- Test after test.
 use mathlib.Core.Path.{sym, ◌∙◌}
-use borrow.Author.Tests.{le-leb, lt-leb, lt-ltb, le-ltb, not-true, not-false}
+use borrow.Author.Tests.{le-leb, lt-leb, lt-ltb, le-ltb}
 use Rattle.judge.specs.Pass.{row_fits}
-use borrow.Author.Rules.{rules}
 use Rattle.judge.proofs.row_fits.Goals as goal
 
 pub returns-then-column-i : goal.returns-then-column-i

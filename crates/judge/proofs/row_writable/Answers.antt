@@ -1,7 +1,6 @@
+-- The number, the body, the key.
 use mathlib.Core.Path.{sym, ◌∙◌}
-use borrow.Author.Tests.{not-true, not-false}
 use Rattle.judge.specs.Pass.{row_writable}
-use borrow.Author.Rules.{rules}
 use Rattle.judge.proofs.row_writable.Goals as goal
 
 pub returns-then-not-number_writable : goal.returns-then-not-number_writable

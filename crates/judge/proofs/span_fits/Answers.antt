@@ -1,7 +1,7 @@
+-- Empty, or within the store.
 use mathlib.Core.Path.{sym}
 use borrow.Author.Tests.{eq-eqb, ne_eqb}
 use Rattle.format.specs.RowTest.{span_fits}
-use borrow.Author.Rules.{rules}
 use Rattle.judge.proofs.span_fits.Goals as goal
 
 pub returns-then-size-eq0 : goal.returns-then-size-eq0

@@ -1,7 +1,7 @@
+-- The tests on each way.
 use mathlib.Core.Path.{sym}
 use borrow.Author.Tests.{le-leb, lt-leb, lt-ltb, le-ltb}
 use Rattle.judge.specs.Pass.{target_fits}
-use borrow.Author.Rules.{rules}
 use Rattle.judge.proofs.target_fits.Goals as goal
 
 pub returns-then-i-target : goal.returns-then-i-target

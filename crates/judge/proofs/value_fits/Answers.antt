@@ -1,8 +1,8 @@
+-- By the kind.
 use mathlib.Core.Path.{sym, ◌∙◌}
 use borrow.Author.Tests.{eq-eqb, ne_eqb}
 use Rattle.format.specs.RowTest.{value_fits}
 use Rattle.judge.specs.Pass.{target_fits}
-use borrow.Author.Rules.{rules}
 use Rattle.judge.proofs.value_fits.Goals as goal
 
 pub returns-then-kind-eq-BOOLEAN : goal.returns-then-kind-eq-BOOLEAN

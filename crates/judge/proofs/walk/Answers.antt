@@ -1,7 +1,4 @@
-use borrow.Author.Rules.{rules}
-use mathlib.Core.Path.{◌≡◌}
-use Prim.Native.Nat.{◌-◌}
-use Rattle.judge.specs.Pass.{walk, walk_of}
+-- The loop's invariant: what is left to walk, with the least rows so far, is the whole walk.
 use Rattle.judge.proofs.Ways.{walk_start, walk_end, walk-short, walk-back, walk-past, walk_more}
 use Rattle.judge.proofs.walk.Goals as goal
 

@@ -1,8 +1,6 @@
-use borrow.Author.Rules.{rules}
 use mathlib.Core.Path.{◌≡◌}
 use Prim.Native.Nat.{◌-◌}
 use Rattle.judge.specs.Pass.{walk, walk_of}
-use Rattle.judge.proofs.Ways.{walk_start, walk_end, walk-short, walk-back, walk-past, walk_more}
 use Rattle.judge.proofs.walk.Given as goal
 
 abbrev pub invariant-loop-j : goal.invariant-loop-j

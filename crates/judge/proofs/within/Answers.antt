@@ -1,3 +1,4 @@
+-- The tests on each way.
 use mathlib.Core.Path.{sym}
 use borrow.Author.Tests.{le-leb, lt-leb}
 use Rattle.judge.proofs.within.Goals as goal

@@ -1,3 +1,4 @@
+-- Safe and ends: each turn goes on in the slice. Nothing has to hold from turn to turn.
 use Rattle.std.proofs.Common.{length, ◌-◌}
 use Rattle.leaves.proofs.count.Given as goal
 

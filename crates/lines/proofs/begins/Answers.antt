@@ -1,3 +1,4 @@
+-- A short line is no such line; else the line's beginning is compared.
 use Rattle.std.proofs.Common.{sym}
 use Rattle.lines.proofs.Equal.{too_short}
 use Rattle.lines.proofs.begins.Goals as goal

@@ -1,3 +1,4 @@
+-- The bytes so far were put, and the digits from p on make the rest.
 use Rattle.std.proofs.Common.{◌≡◌, ◌+◌, ◌∷◌, ◌∙◌, List, [], ℕ, ap}
 use Rattle.lines.specs.Lines.{digits_at}
 use Rattle.lines.proofs.Digits.{digits-end, digits-other, digits_more}

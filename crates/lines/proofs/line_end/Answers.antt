@@ -1,3 +1,4 @@
+-- The line that goes on at i ends where the line that goes on at `at` does.
 use Rattle.std.proofs.Common.{◌∙◌, sym}
 use Rattle.lines.proofs.Ends.{end-here, end_later}
 use Rattle.lines.proofs.line_end.Goals as goal

@@ -1,3 +1,4 @@
+-- The digits so far gave n, and the digits from p on give the rest.
 use Rattle.std.proofs.Common.{◌≡◌, []}
 use Rattle.lines.specs.Lines.{digits_at}
 use Rattle.lines.proofs.Digits.{digits-end, digits-other, digits_more}

@@ -1,3 +1,4 @@
+-- What is left of the two is equal just where they are.
 use Rattle.std.proofs.Common.{◌∙◌, sym, arith}
 use Rattle.lines.proofs.Equal.{other_length, equal-end, equal-more, equal-other}
 use Rattle.lines.proofs.same.Goals as goal

@@ -1,3 +1,4 @@
+-- By the sign.
 use Rattle.std.proofs.Common.{arith}
 use Rattle.listing.proofs.Digits.{below-zero, not-below-zero}
 use Rattle.listing.proofs.decimal_of.Goals as goal

@@ -1,3 +1,4 @@
+-- Safe and ends: each turn goes on in the slice.
 use Rattle.std.proofs.Common.{length, ◌-◌}
 use Rattle.listing.proofs.print_bytes.Given as goal
 

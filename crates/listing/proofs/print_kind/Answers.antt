@@ -1,3 +1,4 @@
+-- The names have room for each kind.
 use Rattle.std.proofs.Common.{arith}
 use Rattle.listing.proofs.Known.{known-least}
 use Rattle.listing.proofs.print_kind.Goals as goal

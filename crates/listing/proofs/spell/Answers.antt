@@ -1,3 +1,4 @@
+-- The loop's invariant: what is left to spell, into what there is, makes the whole.
 use Rattle.std.proofs.Common.{arith, length-set}
 use Rattle.listing.proofs.Digits.{spelled_more, spelled_whole}
 use Rattle.listing.proofs.spell.Goals as goal

@@ -1,3 +1,4 @@
+-- Room for a body, its bytes, and the row's end.
 use mathlib.Core.Path.{refl, ap}
 use mathlib.Core.List.{[]}
 use Rattle.decide.specs.Outcomes.{done_of, text_of}
@@ -5,7 +6,6 @@ use Rattle.format.specs.Reading.{new_of, filled, ret}
 use Rattle.scan.proofs.Does.{does_closed}
 use Rattle.scan.proofs.Reserves.{room-placed}
 use Rattle.scan.proofs.Then.{then, passed, refused, chosen}
-use borrow.Author.Rules.{rules}
 use Rattle.parts.proofs.bytes.Goals as goal
 
 pub returns-in_default : goal.returns-in_default

@@ -1,9 +1,9 @@
+-- Eight bytes, and the date that they say.
 use mathlib.Core.Path.{ap}
 use Rattle.format.specs.Reading.{new_of}
 use Rattle.scan.specs.Reads.{number_in}
 use Rattle.scan.proofs.Does.{does_date}
 use Rattle.scan.proofs.Then.{then, refused}
-use borrow.Author.Rules.{rules}
 use Rattle.parts.proofs.date.Goals as goal
 
 pub returns-in_default : goal.returns-in_default

@@ -1,9 +1,9 @@
+-- Eight bytes, and the row's number.
 use mathlib.Core.Path.{ap}
 use Rattle.format.specs.Reading.{marked}
 use Rattle.scan.specs.Reads.{number_in}
 use Rattle.scan.proofs.Does.{does_numbered}
 use Rattle.scan.proofs.Then.{then, refused}
-use borrow.Author.Rules.{rules}
 use Rattle.parts.proofs.double.Goals as goal
 
 pub returns-in_default : goal.returns-in_default

@@ -1,9 +1,9 @@
+-- A class, and the refusal of what is externalizable.
 use mathlib.Core.Path.{ap}
 use Rattle.decide.specs.Outcomes.{text_of}
 use Rattle.parts.specs.Heads.{external_trait}
 use Rattle.scan.proofs.Does.{does_refuse}
 use Rattle.scan.proofs.Then.{then, refused}
-use borrow.Author.Rules.{rules}
 use Rattle.parts.proofs.external.Goals as goal
 
 pub returns-in_default : goal.returns-in_default

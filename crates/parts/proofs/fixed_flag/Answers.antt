@@ -1,8 +1,8 @@
+-- A byte, and the flag that it is.
 use mathlib.Core.Path.{ap}
 use Rattle.scan.specs.Reads.{flag, number_in}
 use Rattle.scan.proofs.Does.{does_flagged}
 use Rattle.scan.proofs.Then.{then, refused}
-use borrow.Author.Rules.{rules}
 use Rattle.parts.proofs.fixed_flag.Goals as goal
 
 pub returns-in_default : goal.returns-in_default

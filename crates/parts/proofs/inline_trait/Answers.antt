@@ -1,9 +1,9 @@
+-- A class in the row, names, and the trait's place.
 use mathlib.Core.Path.{refl, ap}
 use Rattle.decide.specs.Outcomes.{done_of}
 use Rattle.parts.specs.Heads.{inline_trait}
 use Rattle.scan.proofs.Does.{does_object, does_trait_end}
 use Rattle.scan.proofs.Then.{then, refused, returned}
-use borrow.Author.Rules.{rules}
 use Rattle.parts.proofs.inline_trait.Goals as goal
 
 pub returns-in_default : goal.returns-in_default

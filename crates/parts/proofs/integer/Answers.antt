@@ -1,9 +1,9 @@
+-- A word, and what it decides.
 use mathlib.Core.Path.{ap}
 use Rattle.format.specs.Reading.{marked}
 use Rattle.scan.specs.Reads.{number_in}
 use Rattle.scan.proofs.Does.{does_integer}
 use Rattle.scan.proofs.Then.{then, refused}
-use borrow.Author.Rules.{rules}
 use Rattle.parts.proofs.integer.Goals as goal
 
 pub returns-in_default : goal.returns-in_default

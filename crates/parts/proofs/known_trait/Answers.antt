@@ -1,9 +1,9 @@
+-- A trait that is known, and its class in the row.
 use mathlib.Core.Path.{ap}
 use Rattle.decide.specs.Outcomes.{done_of, traited_of}
 use Rattle.parts.specs.Heads.{known_trait}
 use Rattle.scan.proofs.Does.{does_old_trait, does_object}
 use Rattle.scan.proofs.Then.{then, refused, returned}
-use borrow.Author.Rules.{rules}
 use Rattle.parts.proofs.known_trait.Goals as goal
 
 pub returns-in_default : goal.returns-in_default

@@ -1,10 +1,9 @@
-use borrow.Author.Rules.{rules}
+-- A name and its place among the names, so many times.
 use native.Mathlib.Omega.{arith}
 use mathlib.Core.Path.{refl, sym, ap, ◌∙◌}
-use Prim.Native.Nat.{◌-◌}
 use Rattle.decide.specs.Outcomes.{text_of}
 use Rattle.scan.proofs.Does.{does_named}
-use Rattle.scan.proofs.Loops.{Names, names-all, names_more, names-none}
+use Rattle.scan.proofs.Loops.{names-all, names_more, names-none}
 use Rattle.scan.proofs.Then.{then, refused}
 use Rattle.parts.proofs.name_list.Goals as goal
 

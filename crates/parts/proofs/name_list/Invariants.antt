@@ -1,11 +1,5 @@
-use borrow.Author.Rules.{rules}
-use native.Mathlib.Omega.{arith}
-use mathlib.Core.Path.{refl, sym, ap, ◌∙◌}
 use Prim.Native.Nat.{◌-◌}
-use Rattle.decide.specs.Outcomes.{text_of}
-use Rattle.scan.proofs.Does.{does_named}
-use Rattle.scan.proofs.Loops.{Names, names-all, names_more, names-none}
-use Rattle.scan.proofs.Then.{then, refused}
+use Rattle.scan.proofs.Loops.{Names}
 use Rattle.parts.proofs.name_list.Given as goal
 
 abbrev pub invariant-loop-i : goal.invariant-loop-i

@@ -1,3 +1,4 @@
+-- Room for a text, which its row shows, its bytes, and its place in the strings.
 use mathlib.Core.Path.{refl, sym, ap, ◌∙◌}
 use Rattle.decide.specs.Outcomes.{done_of, text_of, whether_of}
 use Rattle.format.specs.Reading.{chars_of}
@@ -5,7 +6,6 @@ use Rattle.scan.proofs.Does.{does_reserved, does_bodied, does_text-end}
 use Rattle.scan.proofs.Reserves.{reserved-placed, row-placed}
 use Rattle.scan.proofs.Sizes.{text-none, text-some}
 use Rattle.scan.proofs.Then.{then, passed, refused, chosen}
-use borrow.Author.Rules.{rules}
 use Rattle.parts.proofs.new_string.Goals as goal
 
 pub returns-then-n-eq0 : goal.returns-then-n-eq0

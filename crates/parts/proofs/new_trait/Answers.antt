@@ -1,9 +1,9 @@
+-- A class, and the rest of its trait.
 use mathlib.Core.Path.{ap}
 use Rattle.decide.specs.Outcomes.{text_of}
 use Rattle.format.specs.Decide.{trait_of}
 use Rattle.parts.specs.Heads.{new_trait, inline_trait}
 use Rattle.scan.proofs.Then.{then, refused, from-cursor, chosen}
-use borrow.Author.Rules.{rules}
 use Rattle.parts.proofs.new_trait.Goals as goal
 
 pub returns-in_default : goal.returns-in_default

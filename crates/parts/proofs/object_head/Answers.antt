@@ -1,3 +1,4 @@
+-- An object word: a reference, or an object among the objects, and its trait.
 use mathlib.Core.Path.{sym, ap, ◌∙◌}
 use Rattle.decide.specs.Outcomes.{done_of}
 use Rattle.scan.specs.Reads.{number_in}
@@ -5,7 +6,6 @@ use Rattle.parts.specs.Heads.{object_head, object_rest}
 use Rattle.scan.proofs.Does.{does_referred, does_entered}
 use Rattle.parts.proofs.Shapes.{object-entered, object-not-entered}
 use Rattle.scan.proofs.Then.{then, refused, returned, chosen}
-use borrow.Author.Rules.{rules}
 use Rattle.parts.proofs.object_head.Goals as goal
 
 pub returns-in_default : goal.returns-in_default

@@ -1,7 +1,7 @@
+-- The answer by its variant.
 use mathlib.Core.Path.{sym, ap, ◌∙◌}
 use Rattle.decide.proofs.Refusals.{stops}
 use Rattle.parts.specs.Heads.{classed_of, over_of}
-use borrow.Author.Rules.{rules}
 use Rattle.parts.proofs.object_over.Goals as goal
 
 pub returns-in-Of : goal.returns-in-Of

@@ -1,7 +1,7 @@
+-- The answer by its variant.
 use mathlib.Core.Path.{sym, ap, ◌∙◌}
 use Rattle.decide.proofs.Refusals.{stops}
 use Rattle.parts.specs.Heads.{sized_of, over_of}
-use borrow.Author.Rules.{rules}
 use Rattle.parts.proofs.over.Goals as goal
 
 pub returns-in-New : goal.returns-in-New

@@ -1,3 +1,4 @@
+-- Room for a body, a flag, the bytes, and the row's end.
 use native.Mathlib.Omega.{arith}
 use mathlib.Core.Path.{refl, sym, ap, ◌∙◌}
 use mathlib.Core.List.{[]}
@@ -10,7 +11,6 @@ use Rattle.parts.proofs.Regrouped.{raw-regrouped}
 use Rattle.scan.proofs.Reserves.{room-placed, flag-flagged, flagged-placed}
 use Rattle.scan.proofs.Sizes.{raw-size}
 use Rattle.scan.proofs.Then.{then, passed, refused, chosen}
-use borrow.Author.Rules.{rules}
 use Rattle.parts.proofs.raw.Goals as goal
 
 pub overflow_mul-size : goal.overflow_mul-size

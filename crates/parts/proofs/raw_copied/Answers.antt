@@ -1,10 +1,10 @@
+-- The copy as a whole, and the count once.
 use mathlib.Core.Path.{refl, ap, ◌∙◌}
 use Rattle.decide.specs.Outcomes.{done_of}
 use Rattle.scan.proofs.Does.{does_grown}
 use Rattle.scan.proofs.Then.{then, refused}
 use Rattle.scan.proofs.Ends.{some}
 use Rattle.scan.proofs.Copies.{reads-empty, reads-raw}
-use borrow.Author.Rules.{rules}
 use Rattle.parts.proofs.raw_copied.Goals as goal
 
 pub returns-then-s-eq0 : goal.returns-then-s-eq0

@@ -1,9 +1,9 @@
+-- Room is reserved, and the row shows it.
 use mathlib.Core.Path.{sym, ap, ◌∙◌}
 use Rattle.decide.specs.Outcomes.{done_of, text_of}
 use Rattle.scan.proofs.Does.{does_reserved, does_bodied}
 use Rattle.scan.proofs.Then.{then, passed, refused, returned}
 use Rattle.scan.proofs.Sizes.{room-none, room-some}
-use borrow.Author.Rules.{rules}
 use Rattle.parts.proofs.room.Goals as goal
 
 pub returns-then-n-eq0 : goal.returns-then-n-eq0

@@ -1,9 +1,9 @@
+-- A body, and the row's end.
 use mathlib.Core.Path.{ap}
 use Rattle.decide.specs.Outcomes.{done_of}
 use Rattle.parts.specs.Heads.{last_body}
 use Rattle.scan.proofs.Does.{does_bodied, does_closed}
 use Rattle.scan.proofs.Then.{then, passed}
-use borrow.Author.Rules.{rules}
 use Rattle.parts.proofs.shown.Goals as goal
 
 pub returns-in_default : goal.returns-in_default

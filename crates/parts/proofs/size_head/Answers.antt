@@ -1,3 +1,4 @@
+-- A size word: a reference, or a new value among the objects.
 use mathlib.Core.Path.{sym, ap, ◌∙◌}
 use Rattle.decide.specs.Outcomes.{done_of}
 use Rattle.scan.specs.Reads.{number_in}
@@ -6,7 +7,6 @@ use Rattle.scan.proofs.Does.{does_referred, does_entered}
 use Rattle.scan.proofs.Then.{then, refused, returned, chosen}
 use Rattle.scan.proofs.Sizes.{size_bound}
 use Rattle.parts.proofs.Bounds.{no_bound, over_bound, new_bound}
-use borrow.Author.Rules.{rules}
 use Rattle.parts.proofs.size_head.Goals as goal
 
 pub returns-in_default : goal.returns-in_default

@@ -1,9 +1,9 @@
+-- A string value's text, and its row's end.
 use mathlib.Core.Path.{ap}
 use Rattle.decide.specs.Outcomes.{text_of}
 use Rattle.format.specs.Reading.{marked}
 use Rattle.parts.specs.Heads.{last_body}
 use Rattle.scan.proofs.Then.{then, refused}
-use borrow.Author.Rules.{rules}
 use Rattle.parts.proofs.string.Goals as goal
 
 pub returns-in_default : goal.returns-in_default

@@ -1,9 +1,9 @@
+-- A flag, a class, and whether it is `*`.
 use mathlib.Core.Path.{refl, sym, ap, ◌∙◌}
 use Rattle.decide.specs.Outcomes.{done_of, text_of, whether_of}
 use Rattle.scan.proofs.Does.{does_starred, does_vector}
 use Rattle.parts.proofs.Regrouped.{vector-regrouped}
 use Rattle.scan.proofs.Then.{then, answered, refused}
-use borrow.Author.Rules.{rules}
 use Rattle.parts.proofs.vector_head.Goals as goal
 
 pub returns-in_default : goal.returns-in_default

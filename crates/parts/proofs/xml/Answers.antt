@@ -1,11 +1,11 @@
-use mathlib.Core.Path.{refl, ap, ◌∙◌}
+-- Room for a body, its bytes, the verdict on them, and the row's end.
+use mathlib.Core.Path.{refl, ap}
 use mathlib.Core.List.{[]}
 use Rattle.decide.specs.Outcomes.{done_of, text_of, whether_of}
 use Rattle.format.specs.Reading.{new_of, chars_of}
 use Rattle.scan.proofs.Does.{does_judged, does_closed}
 use Rattle.scan.proofs.Reserves.{room-placed}
 use Rattle.scan.proofs.Then.{then, passed, refused, chosen}
-use borrow.Author.Rules.{rules}
 use Rattle.parts.proofs.xml.Goals as goal
 
 pub returns-in_default : goal.returns-in_default

@@ -1,6 +1,6 @@
+-- As many as the least allows.
 use native.Mathlib.Omega.{arith}
 use Rattle.rows.specs.Memory.{message_limit}
-use borrow.Author.Rules.{rules}
 use Rattle.pieces.proofs.bulk.Goals as goal
 
 pub overflow_sub-c : goal.overflow_sub-c

@@ -1,5 +1,5 @@
+-- By the answer.
 use Rattle.pieces.proofs.Costs.{cost-low, cost-high, cost-none}
-use borrow.Author.Rules.{rules}
 use Rattle.pieces.proofs.cost.Goals as goal
 
 pub returns-then-r-lt-TOO_LONG : goal.returns-then-r-lt-TOO_LONG

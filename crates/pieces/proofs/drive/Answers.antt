@@ -1,12 +1,9 @@
-use borrow.Author.Rules.{rules}
+-- What is left of the piece is run from where the loop stands.
 use native.Mathlib.Omega.{arith}
 use mathlib.Core.Path.{sym, ◌∙◌}
-use Prim.Native.Nat.{◌-◌}
-use lib.ListN.{length}
-use borrow.Author.Tests.{not-true, not-false}
 use Rattle.rows.specs.Memory.{memory, message_limit}
 use Rattle.pieces.proofs.Costs.{cost-most}
-use Rattle.pieces.proofs.Drives.{ran-is, Driven, ready-deep, ready-within, driven_first, driven_all, driven_lost, driven_on, driven_end, driven_fills, driven_past}
+use Rattle.pieces.proofs.Drives.{ran-is, ready-deep, ready-within, driven_first, driven_all, driven_lost, driven_on, driven_end, driven_fills, driven_past}
 use Rattle.pieces.proofs.Bytes.{nearly_ready}
 use Rattle.pieces.proofs.drive.Goals as goal
 

@@ -1,3 +1,4 @@
+-- A copy, and the text test or the count over it.
 use native.Mathlib.Omega.{arith}
 use mathlib.Core.Path.{ap, ◌∙◌}
 use Prim.Native.Nat.{◌+◌}
@@ -5,7 +6,6 @@ use borrow.Author.Tests.{ne_eqb}
 use Rattle.utf8.specs.States.{fold_of}
 use Rattle.pieces.proofs.Drives.{part_slice}
 use Rattle.pieces.proofs.Fills.{fills-text, fills-raw}
-use borrow.Author.Rules.{rules}
 use Rattle.pieces.proofs.fill.Goals as goal
 
 pub overflow_add-i : goal.overflow_add-i

@@ -1,5 +1,5 @@
+-- All taken, or the byte's.
 use Rattle.pieces.proofs.Steps.{too_long_lem, acted}
-use borrow.Author.Rules.{rules}
 use Rattle.pieces.proofs.go_on.Goals as goal
 
 pub returns-then-c-ge-MESSAGE_LIMIT : goal.returns-then-c-ge-MESSAGE_LIMIT

@@ -1,5 +1,5 @@
+-- By the answer.
 use mathlib.Core.Path.{◌∙◌}
-use borrow.Author.Rules.{rules}
 use Rattle.pieces.proofs.head_after.Goals as goal
 
 pub returns-in-Wait : goal.returns-in-Wait

@@ -1,10 +1,9 @@
+-- Never begun, not sound, or the byte's.
 use mathlib.Core.Path.{refl}
-use borrow.Author.Tests.{not-true, not-false}
 use mathlib.Core.List.{[]}
 use Rattle.rows.specs.Memory.{memory}
 use Rattle.format.specs.Numbers.{lent_of}
 use Rattle.pieces.proofs.Steps.{never-begun, not_sound, stepped-on, deep-enough}
-use borrow.Author.Rules.{rules}
 use Rattle.pieces.proofs.next.Goals as goal
 
 pub returns-then-h-ne-WAITING : goal.returns-then-h-ne-WAITING

@@ -1,8 +1,8 @@
+-- No byte; none that is taken; one that ends it; or the first and those behind it.
 use native.Mathlib.Omega.{arith}
 use mathlib.Core.Path.{sym, ◌∙◌}
 use Rattle.rows.specs.Memory.{memory}
 use Rattle.pieces.proofs.Drives.{ran-is, ran-parts, none_runs, ended-runs, first_ends, first-ready, first-waits}
-use borrow.Author.Rules.{rules}
 use Rattle.pieces.proofs.run.Goals as goal
 
 pub returns-then-piece-eq0 : goal.returns-then-piece-eq0

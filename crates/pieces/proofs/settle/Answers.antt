@@ -1,5 +1,5 @@
+-- Only a refusal.
 use Rattle.resume.specs.Steps.{settled}
-use borrow.Author.Rules.{rules}
 use Rattle.pieces.proofs.settle.Goals as goal
 
 pub returns-in-Wait : goal.returns-in-Wait

@@ -1,6 +1,6 @@
+-- Ended, or by the answer.
 use mathlib.Core.Path.{sym, ◌∙◌}
 use Rattle.pieces.proofs.Steps.{stays, goes_on}
-use borrow.Author.Rules.{rules}
 use Rattle.pieces.proofs.step.Goals as goal
 
 pub returns-then-has_ended : goal.returns-then-has_ended

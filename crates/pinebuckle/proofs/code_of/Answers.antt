@@ -1,6 +1,6 @@
+-- By the variant.
 use mathlib.Core.Path.{sym, ap, ◌∙◌}
 use Rattle.pinebuckle.specs.Coding.{code_of}
-use borrow.Author.Rules.{rules}
 use Rattle.pinebuckle.proofs.code_of.Goals as goal
 
 pub returns-in-Waiting : goal.returns-in-Waiting

@@ -1,6 +1,6 @@
+-- The call's outcome, its answer coded.
 use mathlib.Core.Path.{ap, ◌∙◌}
 use Rattle.pinebuckle.specs.Coding.{coded_fed}
-use borrow.Author.Rules.{rules}
 use Rattle.pinebuckle.proofs.ended_coded.Goals as goal
 
 pub returns : goal.returns

@@ -1,5 +1,5 @@
+-- The piece's head, its answer coded.
 use Rattle.pinebuckle.proofs.Codes.{fed-coded}
-use borrow.Author.Rules.{rules}
 use Rattle.pinebuckle.proofs.fed_in_coded.Goals as goal
 
 pub returns : goal.returns

@@ -1,3 +1,4 @@
+-- The milliseconds that were found, or none.
 use mathlib.Core.Path.{sym, ap, ◌∙◌}
 use mir.Facts.{to_z-of_z}
 use mir.Syntax.{w64}

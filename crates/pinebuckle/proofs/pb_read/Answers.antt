@@ -1,5 +1,5 @@
+-- The answer's code, and the loans.
 use Rattle.pinebuckle.proofs.Codes.{read-coded}
-use borrow.Author.Rules.{rules}
 use Rattle.pinebuckle.proofs.pb_read.Goals as goal
 
 pub returns : goal.returns

@@ -1,7 +1,7 @@
+-- The span that was found, or none.
 use mathlib.Core.Path.{sym, ap, ◌∙◌}
 use Rattle.text.specs.Found.{found_of}
 use Rattle.pinebuckle.specs.Coding.{span_code}
-use borrow.Author.Rules.{rules}
 use Rattle.pinebuckle.proofs.pb_text.Goals as goal
 
 pub returns-in-Nowhere : goal.returns-in-Nowhere

@@ -1,5 +1,5 @@
+-- The answer's code, and the output.
 use Rattle.pinebuckle.proofs.Codes.{write-coded}
-use borrow.Author.Rules.{rules}
 use Rattle.pinebuckle.proofs.pb_write.Goals as goal
 
 pub returns-in-Bytes : goal.returns-in-Bytes

@@ -1,10 +1,10 @@
+-- The trait, the row's class, and the names.
 use mathlib.Core.Path.{refl, sym, ap, ◌∙◌}
 use Rattle.decide.specs.Outcomes.{done_of}
 use Rattle.resume.specs.Steps.{after_of}
 use Rattle.resume.proofs.Decided.{gave-object, stop-object}
 use Rattle.resume.proofs.Refusals.{refuses}
 use Rattle.resume.proofs.Classes.{class-made}
-use borrow.Author.Rules.{rules}
 use Rattle.resume.proofs.class_there.Goals as goal
 
 pub returns-in_default : goal.returns-in_default

@@ -1,10 +1,10 @@
+-- The decision, and the frame with one more done.
 use native.Mathlib.Omega.{arith}
 use mathlib.Core.Path.{sym, ap}
 use Rattle.decide.specs.Outcomes.{done_of}
 use Rattle.resume.proofs.Decided.{gave-counted, stop-counted}
 use Rattle.resume.proofs.Settled.{refused_as}
 use Rattle.resume.proofs.Tasks.{counted-below}
-use borrow.Author.Rules.{rules}
 use Rattle.resume.proofs.count_entry.Goals as goal
 
 pub returns-in_default : goal.returns-in_default

@@ -1,7 +1,7 @@
+-- By the number of the task.
 use mathlib.Core.Path.{◌∙◌}
 use Rattle.resume.proofs.Tasks as tasks
 use Rattle.resume.proofs.Tasks.{Counts, counts, entry_keys, strange-task, entry-strange}
-use borrow.Author.Rules.{rules}
 use Rattle.resume.proofs.entry_done.Goals as goal
 
 pub returns-then-f-eq-PAIRS : goal.returns-then-f-eq-PAIRS

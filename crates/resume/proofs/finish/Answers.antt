@@ -1,8 +1,8 @@
+-- The row's end decides.
 use mathlib.Core.Path.{ap}
 use Rattle.decide.specs.Outcomes.{done_of}
 use Rattle.resume.proofs.Decided.{gave-closed, stop-closed}
 use Rattle.resume.proofs.Settled.{refuses-rows, finishes}
-use borrow.Author.Rules.{rules}
 use Rattle.resume.proofs.finish.Goals as goal
 
 pub returns-in_default : goal.returns-in_default

@@ -1,6 +1,6 @@
+-- Six numbers from their places.
 use mathlib.Core.Path.{refl}
 use Rattle.format.specs.Numbers.{frame_at}
-use borrow.Author.Rules.{rules}
 use Rattle.resume.proofs.frame_at.Goals as goal
 
 pub returns : goal.returns

@@ -1,8 +1,8 @@
+-- By the number of the task.
 use mathlib.Core.Path.{refl}
 use mathlib.Core.Logic.{inl, inr}
 use Rattle.resume.proofs.Settled.{refuses, opens, same}
 use Rattle.resume.proofs.Tasks.{go-pairs, go-dynamics, go-listed, go-members, go-values, go-strange, strange-task}
-use borrow.Author.Rules.{rules}
 use Rattle.resume.proofs.go.Goals as goal
 
 pub returns-then-f-eq-PAIRS : goal.returns-then-f-eq-PAIRS

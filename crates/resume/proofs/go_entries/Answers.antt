@@ -1,6 +1,6 @@
+-- No entry left, or the next one.
 use Rattle.resume.proofs.Settled.{opens, same}
 use Rattle.resume.proofs.Tasks.{no-entries, more-entries}
-use borrow.Author.Rules.{rules}
 use Rattle.resume.proofs.go_entries.Goals as goal
 
 pub returns-then-left-eq0 : goal.returns-then-left-eq0

@@ -1,12 +1,12 @@
+-- No member left, dynamic ones, or the next one with its name.
 use native.Mathlib.Omega.{arith}
 use mathlib.Core.Path.{refl, sym, ap, ◌∙◌}
 use Prim.Native.Nat.{◌+◌}
-use borrow.Author.Tests.{not-true, not-false, leb-true}
+use borrow.Author.Tests.{leb-true}
 use Rattle.decide.specs.Outcomes.{keyed_of}
 use Rattle.resume.proofs.Decided.{gave-sealed-key, stop-sealed-key}
 use Rattle.resume.proofs.Settled.{refuses, same}
 use Rattle.resume.proofs.Tasks.{no-members, dynamic-members, more-members, astray-members}
-use borrow.Author.Rules.{rules}
 use Rattle.resume.proofs.go_members.Goals as goal
 
 pub returns-then-f-eq0-2 : goal.returns-then-f-eq0-2

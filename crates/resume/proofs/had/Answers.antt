@@ -1,4 +1,4 @@
-use borrow.Author.Rules.{rules}
+-- By the purpose.
 use mathlib.Core.Path.{refl}
 use borrow.Author.Tests.{ne_eqb}
 use Rattle.format.specs.Step.{had}

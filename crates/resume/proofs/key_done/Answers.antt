@@ -1,9 +1,9 @@
+-- The decision, and the value's frame.
 use mathlib.Core.Path.{refl, sym, ap}
 use Rattle.decide.specs.Outcomes.{done_of}
 use Rattle.format.specs.Step.{entry, task_of}
 use Rattle.resume.proofs.Decided.{gave-key-end, stop-key-end}
 use Rattle.resume.proofs.Settled.{refused_as}
-use borrow.Author.Rules.{rules}
 use Rattle.resume.proofs.key_done.Goals as goal
 
 pub returns-in_default : goal.returns-in_default

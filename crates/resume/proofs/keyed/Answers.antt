@@ -1,6 +1,6 @@
+-- An empty key, or one more pair.
 use Rattle.resume.proofs.Settled.{opens, same}
 use Rattle.resume.proofs.Amounts.{no-pair, one-pair}
-use borrow.Author.Rules.{rules}
 use Rattle.resume.proofs.keyed.Goals as goal
 
 pub returns-then-p-eq0 : goal.returns-then-p-eq0

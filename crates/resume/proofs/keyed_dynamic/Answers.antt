@@ -1,6 +1,6 @@
+-- An empty key, or one more pair.
 use Rattle.resume.proofs.Settled.{opens, same}
 use Rattle.resume.proofs.Amounts.{no-dynamic, one-dynamic}
-use borrow.Author.Rules.{rules}
 use Rattle.resume.proofs.keyed_dynamic.Goals as goal
 
 pub returns-then-p-eq0 : goal.returns-then-p-eq0

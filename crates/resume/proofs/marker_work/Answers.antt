@@ -1,6 +1,6 @@
+-- A work of a marker.
 use mathlib.Core.Path.{sym}
 use Rattle.format.specs.Numbers.{work_of, body_purpose, use_work}
-use borrow.Author.Rules.{rules}
 use Rattle.resume.proofs.marker_work.Goals as goal
 
 pub returns : goal.returns

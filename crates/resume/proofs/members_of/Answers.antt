@@ -1,5 +1,5 @@
+-- The task of the members.
 use Rattle.format.specs.Step.{task_of}
-use borrow.Author.Rules.{rules}
 use Rattle.resume.proofs.members_of.Goals as goal
 
 pub returns : goal.returns

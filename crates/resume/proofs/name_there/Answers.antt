@@ -1,10 +1,10 @@
+-- The name's place, and the names that are to come.
 use mathlib.Core.Path.{refl, sym, ap, ◌∙◌}
 use Rattle.decide.specs.Outcomes.{text_of}
 use Rattle.format.specs.Step.{had}
 use Rattle.resume.specs.Steps.{after_of}
 use Rattle.resume.proofs.Decided.{gave-named, stop-named}
 use Rattle.resume.proofs.Refusals.{refuses}
-use borrow.Author.Rules.{rules}
 use Rattle.resume.proofs.name_there.Goals as goal
 
 pub returns-in_default : goal.returns-in_default

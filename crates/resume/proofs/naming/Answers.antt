@@ -1,10 +1,10 @@
+-- One more name, or the trait is whole.
 use mathlib.Core.Path.{refl, ap, ◌∙◌}
 use Rattle.decide.specs.Outcomes.{done_of}
 use Rattle.format.specs.Numbers.{work_of, use_work}
 use Rattle.resume.proofs.Decided.{gave_trait_end, stop_trait_end}
 use Rattle.resume.proofs.Settled.{refuses, zeroed-same, waits, same}
 use Rattle.resume.proofs.Amounts.{no_names, more-names}
-use borrow.Author.Rules.{rules}
 use Rattle.resume.proofs.naming.Goals as goal
 
 pub returns-then-n-ne0 : goal.returns-then-n-ne0

@@ -1,7 +1,7 @@
+-- A string is next.
 use Rattle.format.specs.Step.{assoc, at_string, for_key}
 use Rattle.format.specs.Numbers.{work_of, use_work}
 use Rattle.resume.proofs.Settled.{waits}
-use borrow.Author.Rules.{rules}
 use Rattle.resume.proofs.next_key.Goals as goal
 
 pub returns : goal.returns

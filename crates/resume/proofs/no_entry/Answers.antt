@@ -1,8 +1,8 @@
+-- The refusal, where the answer is one.
 use mathlib.Core.Path.{sym, ap, ◌∙◌}
 use Rattle.decide.specs.declared.Refusal.{Refusal}
 use Rattle.resume.specs.declared.Entry.{Entry}
 use Rattle.resume.specs.declared.Entry.TheVariants.{On, No}
-use borrow.Author.Rules.{rules}
 use Rattle.resume.proofs.no_entry.Goals as goal
 
 abbrev why : Entry → Refusal

@@ -1,5 +1,5 @@
+-- The task, and where it finishes its value those around.
 use Rattle.resume.proofs.Turns.{goes_on, goes_after}
-use borrow.Author.Rules.{rules}
 use Rattle.resume.proofs.onward.Goals as goal
 
 pub returns-in_default : goal.returns-in_default

@@ -1,5 +1,5 @@
+-- The frame is laid, and a marker is next.
 use Rattle.resume.proofs.Settled.{waits-next}
-use borrow.Author.Rules.{rules}
 use Rattle.resume.proofs.open_next.Goals as goal
 
 pub returns : goal.returns

@@ -1,7 +1,7 @@
-use borrow.Author.Rules.{rules}
+-- The frames, innermost first, as long as the last of each is finished.
 use native.Mathlib.Omega.{arith}
 use mathlib.Core.Path.{refl, ◌∙◌}
-use Rattle.resume.proofs.Popped.{Popped, popped, entry-refused, task-waits, task-finished}
+use Rattle.resume.proofs.Popped.{popped, entry-refused, task-waits, task-finished}
 use Rattle.resume.proofs.pop.Goals as goal
 
 pub loop-n-init : goal.loop-n-init

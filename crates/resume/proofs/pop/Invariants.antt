@@ -1,7 +1,4 @@
-use borrow.Author.Rules.{rules}
-use native.Mathlib.Omega.{arith}
-use mathlib.Core.Path.{refl, ◌∙◌}
-use Rattle.resume.proofs.Popped.{Popped, popped, entry-refused, task-waits, task-finished}
+use Rattle.resume.proofs.Popped.{Popped}
 use Rattle.resume.proofs.pop.Given as goal
 
 abbrev pub invariant-loop-n : goal.invariant-loop-n

@@ -1,7 +1,7 @@
+-- Six numbers in their places.
 use native.Mathlib.Omega.{arith}
 use mathlib.Core.Path.{◌≡◌}
 use Prim.Native.Nat.{suc, ◌+◌, ◌*◌}
-use borrow.Author.Rules.{rules}
 use Rattle.resume.proofs.put_frame.Goals as goal
 
 pub returns : goal.returns

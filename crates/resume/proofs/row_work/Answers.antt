@@ -1,5 +1,5 @@
+-- A work of a row alone.
 use mathlib.Core.Path.{sym}
-use borrow.Author.Rules.{rules}
 use Rattle.resume.proofs.row_work.Goals as goal
 
 pub returns : goal.returns

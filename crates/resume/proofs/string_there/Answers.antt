@@ -1,10 +1,10 @@
+-- The row shows the span, and ends.
 use mathlib.Core.Path.{refl, sym, ap, ◌∙◌}
 use Rattle.decide.specs.Outcomes.{done_of}
 use Rattle.format.specs.Step.{had}
 use Rattle.resume.specs.Steps.{after_of}
 use Rattle.resume.proofs.Decided.{gave-bodied, stop-bodied}
 use Rattle.resume.proofs.Refusals.{refuses}
-use borrow.Author.Rules.{rules}
 use Rattle.resume.proofs.string_there.Goals as goal
 
 pub returns-in_default : goal.returns-in_default

@@ -1,5 +1,5 @@
+-- A work of a string.
 use mathlib.Core.Path.{sym}
-use borrow.Author.Rules.{rules}
 use Rattle.resume.proofs.string_work.Goals as goal
 
 pub returns : goal.returns

@@ -1,3 +1,4 @@
+-- An XML's text is judged; another enters the strings.
 use mathlib.Core.Path.{refl, sym, ap, ◌∙◌}
 use borrow.Author.Tests.{ne_eqb}
 use Rattle.decide.specs.Outcomes.{done_of, text_of}
@@ -6,7 +7,6 @@ use Rattle.resume.specs.Steps.{after_of}
 use Rattle.resume.proofs.Decided.{gave-judged, stop-judged, gave-text-end, stop-text-end}
 use Rattle.resume.proofs.Refusals.{refuses}
 use Rattle.resume.proofs.Uses.{use_had, use_text}
-use borrow.Author.Rules.{rules}
 use Rattle.resume.proofs.text_done.Goals as goal
 
 pub returns-in_default : goal.returns-in_default

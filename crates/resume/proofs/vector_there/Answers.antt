@@ -1,10 +1,10 @@
+-- Whether it is *, the row's class, and the entries.
 use mathlib.Core.Path.{refl, sym, ap, ◌∙◌}
 use Rattle.decide.specs.Outcomes.{done_of, whether_of}
 use Rattle.format.specs.Step.{had, task_of}
 use Rattle.resume.specs.Steps.{after_of}
 use Rattle.resume.proofs.Decided.{gave-starred, stop-starred, gave-vector, stop-vector}
 use Rattle.resume.proofs.Refusals.{refuses}
-use borrow.Author.Rules.{rules}
 use Rattle.resume.proofs.vector_there.Goals as goal
 
 pub returns-in_default : goal.returns-in_default

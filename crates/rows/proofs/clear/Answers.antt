@@ -1,5 +1,5 @@
+-- Loan by loan.
 use Rattle.rows.specs.Memory.{zeroed}
-use borrow.Author.Rules.{rules}
 use Rattle.rows.proofs.clear.Goals as goal
 
 pub returns : goal.returns

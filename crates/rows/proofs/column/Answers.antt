@@ -1,8 +1,8 @@
+-- The row is lent, and the list goes so far or it doesn't.
 use mathlib.Core.Path.{sym}
 use borrow.Author.Tests.{lt-ltb, le-ltb}
 use Rattle.rows.specs.Memory.{col}
 use Rattle.rows.proofs.RowColumns.{col-past}
-use borrow.Author.Rules.{rules}
 use Rattle.rows.proofs.column.Goals as goal
 
 pub returns-then-c-rows : goal.returns-then-c-rows

@@ -1,9 +1,9 @@
+-- The loop's invariant: what is left to copy, into what there is, makes the whole.
 use borrow.Author.Rules.{rules}
 use native.Mathlib.Omega.{arith}
 use mathlib.Core.Path.{◌≡◌, refl}
-use Prim.Native.Nat.{◌+◌, ◌-◌, ◌≤◌}
-use lib.ListN.{length, length-set}
-use lib.Seq.{sets, slice}
+use Prim.Native.Nat.{◌+◌}
+use lib.ListN.{length-set}
 use Rattle.rows.proofs.Part.{part-more, part-whole}
 use Rattle.rows.proofs.copy.Goals as goal
 

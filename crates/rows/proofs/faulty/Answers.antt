@@ -1,6 +1,6 @@
+-- Answers of faulty. @thing: what `proofs.py paths` lists; @kept:LOAN: the chain of its lengths.
 use mathlib.Core.Path.{sym}
 use borrow.Author.Tests.{lt-ltb, le-ltb}
-use borrow.Author.Rules.{rules}
 use Rattle.rows.proofs.faulty.Goals as goal
 
 pub returns-then-most-n : goal.returns-then-most-n

@@ -1,4 +1,4 @@
-use borrow.Author.Rules.{rules}
+-- The columns, one by one.
 use Rattle.rows.proofs.get_row.Goals as goal
 
 pub returns : goal.returns

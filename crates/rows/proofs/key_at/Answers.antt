@@ -1,4 +1,4 @@
-use borrow.Author.Rules.{rules}
+-- The columns, one by one.
 use Rattle.rows.proofs.key_at.Goals as goal
 
 pub returns : goal.returns

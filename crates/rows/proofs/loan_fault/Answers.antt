@@ -1,6 +1,6 @@
+-- Answers of loan_fault. @thing: what `proofs.py paths` lists; @kept:LOAN: the chain of its lengths.
 use mathlib.Core.Path.{sym, ◌∙◌}
 use Rattle.rows.specs.Memory.{loan_fault}
-use borrow.Author.Rules.{rules}
 use Rattle.rows.proofs.loan_fault.Goals as goal
 
 pub returns-then-faulty : goal.returns-then-faulty

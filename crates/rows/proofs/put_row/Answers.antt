@@ -1,10 +1,10 @@
+-- Each column in its place.
 use native.Mathlib.Omega.{arith}
 use mathlib.Core.Path.{sym}
 use lib.ListN.{length-set}
 use borrow.Author.Tests.{le-ltb}
 use Rattle.rows.specs.Memory.{put_row}
 use Rattle.rows.proofs.RowColumns.{row-stored}
-use borrow.Author.Rules.{rules}
 use Rattle.rows.proofs.put_row.Goals as goal
 
 pub bounds-rows-i-then-row-rows : goal.bounds-rows-i-then-row-rows

@@ -1,3 +1,4 @@
+-- Below the used rows, which are lent.
 use mathlib.Core.Path.{sym}
 use borrow.Author.Tests.{lt-ltb, le-ltb}
 use Rattle.rows.proofs.row_used.Goals as goal

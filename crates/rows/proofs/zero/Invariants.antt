@@ -1,10 +1,7 @@
-use borrow.Author.Rules.{rules}
-use native.Mathlib.Omega.{arith}
 use mathlib.Core.Path.{◌≡◌}
 use mathlib.Core.List.{◌++◌}
 use Prim.Native.Nat.{◌-◌, ◌≤◌}
-use lib.ListN.{length, drop, replicate, length-set}
-use Rattle.rows.proofs.Fill.{filled_more, filled-whole}
+use lib.ListN.{length, drop, replicate}
 use Rattle.rows.proofs.zero.Given as goal
 
 abbrev pub invariant-loop-i : goal.invariant-loop-i

@@ -1,9 +1,6 @@
-use borrow.Author.Rules.{rules}
+-- The loop's invariant: what is passed is 0, and the rest is as it was.
 use native.Mathlib.Omega.{arith}
-use mathlib.Core.Path.{◌≡◌}
-use mathlib.Core.List.{◌++◌}
-use Prim.Native.Nat.{◌-◌, ◌≤◌}
-use lib.ListN.{length, drop, replicate, length-set}
+use lib.ListN.{length-set}
 use Rattle.rows.proofs.Fill.{filled_more, filled-whole}
 use Rattle.rows.proofs.zero_bytes.Goals as goal
 

@@ -1,8 +1,8 @@
+-- One byte, or none.
 use native.Mathlib.Omega.{arith}
 use lib.ListN.{length}
 use Rattle.rows.specs.Memory.{message_limit}
 use Rattle.scan.proofs.Ends.{is-here, reads_byte, reads_none}
-use borrow.Author.Rules.{rules}
 use Rattle.scan.proofs.byte.Goals as goal
 
 pub bounds-message-at : goal.bounds-message-at

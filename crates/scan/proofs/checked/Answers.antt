@@ -1,9 +1,9 @@
+-- A text that is empty, copied and judged, or cut off.
 use native.Mathlib.Omega.{arith}
 use lib.ListN.{length}
 use Rattle.rows.specs.Memory.{message_limit}
 use Rattle.scan.proofs.Ends.{is-here, some}
 use Rattle.scan.proofs.Copies.{reads-no-text, reads-checked, reads-cut-text}
-use borrow.Author.Rules.{rules}
 use Rattle.scan.proofs.checked.Goals as goal
 
 pub returns-then-n-eq0 : goal.returns-then-n-eq0

@@ -1,9 +1,9 @@
+-- A body that is empty, copied or cut off.
 use native.Mathlib.Omega.{arith}
 use lib.ListN.{length}
 use Rattle.rows.specs.Memory.{message_limit}
 use Rattle.scan.proofs.Ends.{is-here, some}
 use Rattle.scan.proofs.Copies.{reads-empty, reads-copied, reads-cut}
-use borrow.Author.Rules.{rules}
 use Rattle.scan.proofs.copied.Goals as goal
 
 pub returns-then-n-eq0 : goal.returns-then-n-eq0

@@ -1,5 +1,5 @@
+-- Eight bytes, one by one.
 use Rattle.scan.proofs.Words.{reads-eight}
-use borrow.Author.Rules.{rules}
 use Rattle.scan.proofs.eight.Goals as goal
 
 pub returns : goal.returns

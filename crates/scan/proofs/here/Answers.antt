@@ -1,6 +1,6 @@
+-- Both tests.
 use mathlib.Core.Path.{sym, ◌∙◌}
 use Rattle.rows.specs.Memory.{message_limit}
-use borrow.Author.Rules.{rules}
 use Rattle.scan.proofs.here.Goals as goal
 
 pub returns-then-fits : goal.returns-then-fits

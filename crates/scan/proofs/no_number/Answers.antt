@@ -1,8 +1,8 @@
+-- The refusal, where the answer is one.
 use mathlib.Core.Path.{sym, ap, ◌∙◌}
 use Rattle.decide.specs.declared.Refusal.{Refusal}
 use Rattle.scan.specs.declared.Number.{Number}
 use Rattle.scan.specs.declared.Number.TheVariants.{Whole, No}
-use borrow.Author.Rules.{rules}
 use Rattle.scan.proofs.no_number.Goals as goal
 
 abbrev why : Number → Refusal

@@ -1,4 +1,5 @@
-use mathlib.Core.Path.{◌≡◌, sym, ◌∙◌}
+-- The place by the tests, and the number by the place.
+use mathlib.Core.Path.{sym, ◌∙◌}
 use Rattle.rows.specs.Memory.{message_limit}
 use Rattle.scan.proofs.Ends.{last-after, last-over, last-whole, last-cut, short-long, short-end}
 use Rattle.scan.proofs.short.Goals as goal

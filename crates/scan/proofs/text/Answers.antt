@@ -1,9 +1,9 @@
+-- A size word, and the text that it is of.
 use mathlib.Core.Path.{sym, ap, ◌∙◌}
 use Rattle.format.specs.Reading as r
 use Rattle.scan.specs.Reads.{number_in}
 use Rattle.scan.proofs.Does.{does_old-text}
 use Rattle.scan.proofs.Then.{then, refused, chosen}
-use borrow.Author.Rules.{rules}
 use Rattle.scan.proofs.text.Goals as goal
 
 pub returns-in_default : goal.returns-in_default

@@ -1,7 +1,7 @@
+-- What was read, within the limit or not.
 use mathlib.Core.Path.{sym}
 use borrow.Author.Tests.{le-leb, lt-leb}
 use Rattle.rows.specs.Memory.{message_limit}
-use borrow.Author.Rules.{rules}
 use Rattle.scan.proofs.within.Goals as goal
 
 pub returns-in_default : goal.returns-in_default

@@ -1,5 +1,5 @@
+-- A U29, byte by byte.
 use Rattle.scan.proofs.Words.{reads_word, word_below}
-use borrow.Author.Rules.{rules}
 use Rattle.scan.proofs.word.Goals as goal
 
 pub returns : goal.returns

@@ -1,5 +1,5 @@
+-- What is told, then the place.
 use mathlib.Core.Path.{sym}
-use borrow.Author.Tests.{not-true, not-false}
 use Rattle.states.proofs.at_place.Goals as goal
 
 pub returns-then-not-told : goal.returns-then-not-told

@@ -1,5 +1,5 @@
+-- By the mode.
 use Rattle.states.proofs.Depths.{other-mode, other-depth, word-depth, number-depth, flag-depth, raw-depth}
-use borrow.Author.Rules.{rules}
 use Rattle.states.proofs.at_work.Goals as goal
 
 pub returns-in-2 : goal.returns-in-2

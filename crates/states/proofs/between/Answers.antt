@@ -1,3 +1,4 @@
+-- The lower bound, then the upper one.
 use mathlib.Core.Path.{sym}
 use borrow.Author.Tests.{le-leb, lt-leb}
 use Rattle.states.proofs.between.Goals as goal

@@ -1,6 +1,6 @@
+-- The row, then the span.
 use mathlib.Core.Path.{sym, ◌∙◌}
 use borrow.Author.Tests.{lt-ltb, le-ltb}
-use borrow.Author.Rules.{rules}
 use Rattle.states.proofs.body_fits.Goals as goal
 
 pub returns-then-c-w : goal.returns-then-c-w

@@ -1,3 +1,4 @@
+-- Each count against its loan.
 use borrow.Author.Tests.{le-leb, lt-leb}
 use Rattle.states.proofs.Lengths.{counted}
 use Rattle.states.proofs.counts_fit.Goals as goal

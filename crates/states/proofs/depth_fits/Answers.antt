@@ -1,9 +1,9 @@
+-- At a marker, or with a value in work.
 use mathlib.Core.Path.{ap}
 use mathlib.Core.Bool.{not}
 use lib.Dec.{ltb}
 use Rattle.rows.specs.Memory.{open_limit}
 use Rattle.states.proofs.Depths.{marker-depth, first_fails, first_holds}
-use borrow.Author.Rules.{rules}
 use Rattle.states.proofs.depth_fits.Goals as goal
 
 pub returns-then-w-eq-MARKER : goal.returns-then-w-eq-MARKER

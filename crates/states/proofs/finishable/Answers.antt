@@ -1,3 +1,4 @@
+-- The rows, then the store.
 use mathlib.Core.Path.{sym}
 use borrow.Author.Tests.{le-leb, lt-leb}
 use Rattle.states.proofs.finishable.Goals as goal

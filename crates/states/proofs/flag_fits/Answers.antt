@@ -1,5 +1,5 @@
+-- By the purpose.
 use Rattle.states.proofs.Works.{flag-low, flag-raw, flag-high, flag-row}
-use borrow.Author.Rules.{rules}
 use Rattle.states.proofs.flag_fits.Goals as goal
 
 pub returns-then-w-lt-FOURS : goal.returns-then-w-lt-FOURS

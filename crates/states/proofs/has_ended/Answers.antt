@@ -1,6 +1,5 @@
-use Rattle.states.specs.Ends.{has_ended}
+-- Finished, or refused, as a reading can be.
 use Rattle.states.proofs.Told.{ends-finished, ends-refused, ends-none}
-use borrow.Author.Rules.{rules}
 use Rattle.states.proofs.has_ended.Goals as goal
 
 pub returns-then-h-eq-FINISHED : goal.returns-then-h-eq-FINISHED

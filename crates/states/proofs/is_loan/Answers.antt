@@ -1,3 +1,4 @@
+-- The lowest, then the highest.
 use mathlib.Core.Path.{sym}
 use borrow.Author.Tests.{le-leb, lt-leb}
 use Rattle.states.proofs.is_loan.Goals as goal

@@ -1,7 +1,7 @@
+-- The mark, then the span.
 use mathlib.Core.Path.{sym}
 use borrow.Author.Tests.{eq-eqb, ne_eqb}
 use Rattle.states.proofs.Works.{at-marker}
-use borrow.Author.Rules.{rules}
 use Rattle.states.proofs.marker_fits.Goals as goal
 
 pub returns-then-w-eq0 : goal.returns-then-w-eq0

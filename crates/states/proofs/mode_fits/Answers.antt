@@ -1,5 +1,5 @@
+-- By the mode.
 use Rattle.states.proofs.Depths.{other-mode, other-unfit}
-use borrow.Author.Rules.{rules}
 use Rattle.states.proofs.mode_fits.Goals as goal
 
 pub returns-in-1 : goal.returns-in-1

@@ -1,6 +1,5 @@
+-- The row and the class, then the first name.
 use mathlib.Core.Path.{sym, ◌∙◌}
-use borrow.Author.Tests.{not-true, not-false}
-use borrow.Author.Rules.{rules}
 use Rattle.states.proofs.name_fits.Goals as goal
 
 pub returns-then-not-place_fits : goal.returns-then-not-place_fits

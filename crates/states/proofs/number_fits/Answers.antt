@@ -1,8 +1,8 @@
+-- By the purpose; the row, then the part.
 use native.Mathlib.Omega.{arith}
 use mathlib.Core.Path.{◌≡◌, refl, sym, ◌∙◌}
 use borrow.Author.Tests.{lt-ltb, le-ltb}
 use Rattle.states.proofs.Works.{number_is, number-none}
-use borrow.Author.Rules.{rules}
 use Rattle.states.proofs.number_fits.Goals as goal
 
 pub returns-then-w-lt-DOUBLE : goal.returns-then-w-lt-DOUBLE

@@ -1,6 +1,6 @@
+-- The next byte doesn't go astray.
 use mathlib.Core.Path.{sym, ◌∙◌}
 use Rattle.states.proofs.Parts.{number-tracked}
-use borrow.Author.Rules.{rules}
 use Rattle.states.proofs.number_part_fits.Goals as goal
 
 pub returns-in-Astray : goal.returns-in-Astray

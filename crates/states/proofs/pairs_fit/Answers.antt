@@ -1,3 +1,4 @@
+-- A key in the making, as a word or a text.
 use native.Mathlib.Omega.{arith}
 use mathlib.Core.Path.{◌≡◌}
 use Rattle.states.proofs.Works.{pairs-none, pairs-other, pairs-word, pairs-text}

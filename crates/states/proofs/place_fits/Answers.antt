@@ -1,6 +1,6 @@
+-- The row, then the span.
 use mathlib.Core.Path.{sym}
 use borrow.Author.Tests.{lt-ltb, le-ltb}
-use borrow.Author.Rules.{rules}
 use Rattle.states.proofs.place_fits.Goals as goal
 
 pub returns-then-c-row : goal.returns-then-c-row

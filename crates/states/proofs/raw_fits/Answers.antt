@@ -1,5 +1,5 @@
+-- By the purpose.
 use Rattle.states.proofs.Works.{raw-low, raw-high, raw-body}
-use borrow.Author.Rules.{rules}
 use Rattle.states.proofs.raw_fits.Goals as goal
 
 pub returns-then-w-lt-BYTE_ARRAY : goal.returns-then-w-lt-BYTE_ARRAY

@@ -1,6 +1,6 @@
+-- No date has these bits.
 use native.Mathlib.Omega.{arith}
 use Rattle.states.proofs.Told.{bits-refused}
-use borrow.Author.Rules.{rules}
 use Rattle.states.proofs.refused_bits.Goals as goal
 
 pub returns : goal.returns

@@ -1,3 +1,4 @@
+-- Length by length.
 use borrow.Author.Tests.{eq-eqb, ne_eqb}
 use Rattle.format.specs.Numbers.{same_lent}
 use Rattle.states.proofs.same_lent.Goals as goal

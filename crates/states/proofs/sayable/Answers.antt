@@ -1,9 +1,9 @@
+-- By the number; else a byte decided.
 use mathlib.Core.Path.{sym, ap, ◌∙◌}
-use borrow.Author.Tests.{ne_eqb, le-leb, lt-leb, not-true, not-false}
+use borrow.Author.Tests.{ne_eqb, le-leb, lt-leb}
 use mathlib.Core.Bool.{◌&&◌}
 use lib.Dec.{eqb}
 use Rattle.format.specs.Refusals as no
-use borrow.Author.Rules.{rules}
 use Rattle.states.proofs.sayable.Goals as goal
 
 pub returns-then-n-eq-UNEXPECTED_END : goal.returns-then-n-eq-UNEXPECTED_END

@@ -1,8 +1,8 @@
+-- Test by test.
 use mathlib.Core.Path.{sym, ◌∙◌}
-use borrow.Author.Tests.{eq-eqb, ne_eqb, le-leb, lt-leb, not-true, not-false}
+use borrow.Author.Tests.{eq-eqb, ne_eqb, le-leb, lt-leb}
 use Rattle.rows.specs.Memory.{message_limit}
 use Rattle.states.proofs.Lengths.{sounds}
-use borrow.Author.Rules.{rules}
 use Rattle.states.proofs.sound.Goals as goal
 
 pub returns-then-not-same_lent : goal.returns-then-not-same_lent

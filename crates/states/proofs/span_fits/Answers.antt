@@ -1,6 +1,5 @@
+-- The span, then what is left of it.
 use mathlib.Core.Path.{sym, ◌∙◌}
-use borrow.Author.Tests.{not-true, not-false}
-use borrow.Author.Rules.{rules}
 use Rattle.states.proofs.span_fits.Goals as goal
 
 pub returns-then-not-fits : goal.returns-then-not-fits

@@ -1,6 +1,6 @@
+-- By the number.
 use Rattle.format.specs.Refusals as no
 use Rattle.states.proofs.Told.{tells_none}
-use borrow.Author.Rules.{rules}
 use Rattle.states.proofs.tells.Goals as goal
 
 pub returns-in-3 : goal.returns-in-3

@@ -1,5 +1,5 @@
+-- An XML text, or a use's.
 use Rattle.states.proofs.Depths.{xml-depth, text-depth}
-use borrow.Author.Rules.{rules}
 use Rattle.states.proofs.text_at_work.Goals as goal
 
 pub returns-then-w-eq-XML : goal.returns-then-w-eq-XML

@@ -1,6 +1,5 @@
-use borrow.Author.Tests.{not-true, not-false}
+-- The test's state; an XML text, or a use's.
 use Rattle.states.proofs.Works.{text-broken, text-body, text_unused, text-used}
-use borrow.Author.Rules.{rules}
 use Rattle.states.proofs.text_fits.Goals as goal
 
 pub returns-then-w-gt-BROKEN : goal.returns-then-w-gt-BROKEN

@@ -1,3 +1,4 @@
+-- Past the last marker, and a byte.
 use mathlib.Core.Path.{sym}
 use borrow.Author.Tests.{lt-ltb, le-ltb}
 use Rattle.states.proofs.unknown_marker.Goals as goal

@@ -1,6 +1,6 @@
+-- By the purpose.
 use Rattle.format.specs.Numbers.{use_fits}
 use Rattle.states.proofs.Works.{no_use}
-use borrow.Author.Rules.{rules}
 use Rattle.states.proofs.use_fits.Goals as goal
 
 pub returns-in-11 : goal.returns-in-11

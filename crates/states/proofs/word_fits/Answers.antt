@@ -1,6 +1,5 @@
-use borrow.Author.Tests.{not-true, not-false}
+-- The row, then the part.
 use Rattle.states.proofs.Works.{word_unused, word-used}
-use borrow.Author.Rules.{rules}
 use Rattle.states.proofs.word_fits.Goals as goal
 
 pub returns-then-not-word_row_fits : goal.returns-then-not-word_row_fits

@@ -1,5 +1,5 @@
+-- By the purpose.
 use Rattle.states.proofs.Works.{word_none, word_row, word_use}
-use borrow.Author.Rules.{rules}
 use Rattle.states.proofs.word_row_fits.Goals as goal
 
 pub returns-then-w-eq0 : goal.returns-then-w-eq0

@@ -1,6 +1,6 @@
+-- By the mode.
 use Rattle.states.proofs.Modes.{fits-marker, fits_word, fits-number, fits-flag, fits-text, fits-raw, no_mode}
 use Rattle.step.proofs.Acts.{acts_marker, acts_word, acts_number, acts_flag, acts_text, acts_raw}
-use borrow.Author.Rules.{rules}
 use Rattle.step.proofs.act.Goals as goal
 
 pub marker_byte-requires : goal.marker_byte-requires

@@ -1,9 +1,9 @@
+-- By what follows the marker.
 use mathlib.Core.Path.{sym, ap, ◌∙◌}
 use Rattle.decide.specs.Outcomes.{kind_in, body_no}
 use Rattle.format.specs.Step.{begun}
 use Rattle.format.specs.Numbers.{use_work, work_of}
 use Rattle.resume.proofs.Settled.{waits}
-use borrow.Author.Rules.{rules}
 use Rattle.step.proofs.begun.Goals as goal
 
 pub returns-in-Leaf : goal.returns-in-Leaf

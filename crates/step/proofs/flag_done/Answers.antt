@@ -1,3 +1,4 @@
+-- The row has its flag; then keys, a class or bytes.
 use mathlib.Core.Path.{refl, sym, ap, ◌∙◌}
 use borrow.Author.Tests.{eq-eqb, ne_eqb}
 use Rattle.decide.specs.Outcomes.{done_of}
@@ -8,7 +9,6 @@ use Rattle.resume.proofs.Decided.{gave-flagged, stop-flagged}
 use Rattle.resume.proofs.Refusals.{refuses}
 use Rattle.resume.proofs.Settled.{waits}
 use Rattle.step.proofs.Flags.{raw-flag, flag-kept, after-dictionary, after-objects, after-raw}
-use borrow.Author.Rules.{rules}
 use Rattle.step.proofs.flag_done.Goals as goal
 use Rattle.step.proofs.flag_done.Goals.{then-w-eq-DICTIONARY, else-w-eq-DICTIONARY}
 

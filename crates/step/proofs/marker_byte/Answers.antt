@@ -1,3 +1,4 @@
+-- A row for the value, and what follows its marker.
 use native.Mathlib.Omega.{arith}
 use mathlib.Core.Path.{refl, sym, ap, ◌∙◌}
 use Rattle.rows.specs.Memory.{open_limit}
@@ -8,7 +9,6 @@ use Rattle.resume.proofs.Decided.{gave-marker, stop-marker}
 use Rattle.resume.proofs.Refusals.{refuses}
 use Rattle.states.proofs.Frames.{length-frames}
 use Rattle.step.proofs.Markers.{marker_open}
-use borrow.Author.Rules.{rules}
 use Rattle.step.proofs.marker_byte.Goals as goal
 
 pub returns-in_default : goal.returns-in_default

@@ -1,3 +1,4 @@
+-- By what the byte makes of the number.
 use native.Mathlib.Omega.{arith}
 use mathlib.Core.Path.{refl, sym, ◌∙◌}
 use Rattle.wire.proofs.Big.{digit-within}
@@ -6,7 +7,6 @@ use Rattle.states.proofs.Purposes.{number-work}
 use Rattle.resume.proofs.Refusals.{refuses}
 use Rattle.resume.proofs.Settled.{waits}
 use Rattle.step.proofs.Parts.{number-astray, number-waits}
-use borrow.Author.Rules.{rules}
 use Rattle.step.proofs.number_byte.Goals as goal
 
 pub overflow_sub-w : goal.overflow_sub-w

@@ -1,9 +1,9 @@
+-- A double's bits or a date's decide, and then those around.
 use mathlib.Core.Path.{ap, ◌∙◌}
 use Rattle.decide.specs.Outcomes.{done_of}
 use Rattle.resume.proofs.Decided.{gave-numbered, stop-numbered, gave-date, stop-date}
 use Rattle.resume.proofs.Settled.{refuses-rows, same}
 use Rattle.resume.proofs.Amounts.{double-done, date-done}
-use borrow.Author.Rules.{rules}
 use Rattle.step.proofs.number_done.Goals as goal
 
 pub returns-in_default : goal.returns-in_default

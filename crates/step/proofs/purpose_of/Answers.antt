@@ -1,5 +1,5 @@
+-- By the body.
 use Rattle.format.specs.Numbers.{body_purpose}
-use borrow.Author.Rules.{rules}
 use Rattle.step.proofs.purpose_of.Goals as goal
 
 pub returns-in-Xml : goal.returns-in-Xml

@@ -1,10 +1,10 @@
+-- The byte in its place, the count behind it, and the bytes that are left.
 use mathlib.Core.Path.{refl, sym, ap, ◌∙◌}
 use Rattle.decide.specs.Outcomes.{done_of}
 use Rattle.resume.specs.Steps.{after_of}
 use Rattle.resume.proofs.Decided.{gave-stored, stop-stored}
 use Rattle.resume.proofs.Refusals.{refuses}
 use Rattle.step.proofs.Raws.{raw-stored, raw-filling, gave-grown-by, stop-grown-by}
-use borrow.Author.Rules.{rules}
 use Rattle.step.proofs.raw_byte.Goals as goal
 
 pub returns-in_default : goal.returns-in_default

@@ -1,6 +1,6 @@
+-- Only a vector's row.
 use mathlib.Core.Path.{sym}
 use borrow.Author.Tests.{ne_eqb}
-use borrow.Author.Rules.{rules}
 use Rattle.step.proofs.raw_grown.Goals as goal
 
 pub returns-then-w-eq-FOURS : goal.returns-then-w-eq-FOURS

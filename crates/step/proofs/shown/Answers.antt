@@ -1,7 +1,7 @@
+-- A mark of 0, or any other.
 use mathlib.Core.Path.{sym, ◌∙◌}
 use borrow.Author.Tests.{eq-eqb, ne_eqb}
 use Rattle.format.specs.Step.{shown}
-use borrow.Author.Rules.{rules}
 use Rattle.step.proofs.shown.Goals as goal
 
 pub returns-then-w-eq0 : goal.returns-then-w-eq0

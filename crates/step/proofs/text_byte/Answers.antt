@@ -1,3 +1,4 @@
+-- The byte in its place, and the text test one byte further.
 use mathlib.Core.Path.{refl, sym, ap, ◌∙◌}
 use Rattle.decide.specs.Outcomes.{done_of}
 use Rattle.resume.specs.Steps.{after_of}
@@ -5,7 +6,6 @@ use Rattle.resume.proofs.Decided.{gave-stored, stop-stored}
 use Rattle.resume.proofs.Refusals.{refuses}
 use Rattle.resume.proofs.Settled.{waits}
 use Rattle.step.proofs.Texts.{text-work-of, text-stored, text-last, text-more}
-use borrow.Author.Rules.{rules}
 use Rattle.step.proofs.text_byte.Goals as goal
 
 pub returns-in_default : goal.returns-in_default

@@ -1,7 +1,7 @@
+-- An XML's, or a use's.
 use mathlib.Core.Path.{sym, ◌∙◌}
 use borrow.Author.Tests.{ne_eqb}
 use Rattle.format.specs.Numbers.{work_of}
-use borrow.Author.Rules.{rules}
 use Rattle.step.proofs.text_work.Goals as goal
 
 pub returns-then-w-eq-XML : goal.returns-then-w-eq-XML

@@ -1,3 +1,4 @@
+-- By what the byte makes of the word.
 use native.Mathlib.Omega.{arith}
 use mathlib.Core.Path.{refl, sym, ◌∙◌}
 use Rattle.wire.proofs.U29.{part-within}
@@ -5,7 +6,6 @@ use Rattle.format.specs.Step.{act}
 use Rattle.resume.proofs.Refusals.{refuses}
 use Rattle.resume.proofs.Settled.{waits}
 use Rattle.step.proofs.Parts.{whole-small, word-astray, word-waits, word-work-of}
-use borrow.Author.Rules.{rules}
 use Rattle.step.proofs.word_byte.Goals as goal
 
 pub overflow_sub-w : goal.overflow_sub-w

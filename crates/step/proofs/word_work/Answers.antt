@@ -1,8 +1,8 @@
+-- A body's, an object's or an integer's, or a use's.
 use mathlib.Core.Path.{sym, ◌∙◌}
 use Rattle.format.specs.Step.{at_word}
 use Rattle.format.specs.Numbers.{no_work, work_of}
 use Rattle.states.proofs.Purposes.{low_word, high_word}
-use borrow.Author.Rules.{rules}
 use Rattle.step.proofs.word_work.Goals as goal
 
 pub returns-then-w-le-DICTIONARY : goal.returns-then-w-le-DICTIONARY

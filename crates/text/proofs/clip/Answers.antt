@@ -1,5 +1,5 @@
+-- Nothing, the whole part, or the rest.
 use Rattle.text.proofs.Texts.{part_none, part-whole, part-rest}
-use borrow.Author.Rules.{rules}
 use Rattle.text.proofs.clip.Goals as goal
 
 pub returns-then-store-begin : goal.returns-then-store-begin

@@ -1,3 +1,4 @@
+-- One of three kinds.
 use mathlib.Core.Path.{sym}
 use borrow.Author.Tests.{eq-eqb, ne_eqb}
 use Rattle.text.proofs.has_text.Goals as goal

@@ -1,7 +1,7 @@
+-- A reference, or not.
 use mathlib.Core.Path.{sym, ◌∙◌}
 use borrow.Author.Tests.{eq-eqb, ne_eqb}
 use Rattle.format.specs.Unfold.{home}
-use borrow.Author.Rules.{rules}
 use Rattle.text.proofs.home_of.Goals as goal
 
 pub returns-then-kind_at-eq-REFERENCE : goal.returns-then-kind_at-eq-REFERENCE

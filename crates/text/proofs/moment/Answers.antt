@@ -1,8 +1,8 @@
+-- No fault of the loans.
 use mathlib.Core.Path.{sym, ap, ◌∙◌}
 use Prim.Native.Nat.{ℕ}
 use borrow.Author.Tests.{eq-eqb, ne_eqb}
 use Rattle.format.specs.Text.{moment_in, moment_at}
-use borrow.Author.Rules.{rules}
 use Rattle.text.proofs.moment.Goals as goal
 
 pub returns-then-loan_fault-ne0 : goal.returns-then-loan_fault-ne0

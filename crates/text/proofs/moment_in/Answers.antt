@@ -1,7 +1,7 @@
+-- A date, or not.
 use mathlib.Core.Path.{sym, ap, ◌∙◌}
 use borrow.Author.Tests.{eq-eqb, ne_eqb}
 use Rattle.wire.specs.Date.{moment_of}
-use borrow.Author.Rules.{rules}
 use Rattle.text.proofs.moment_in.Goals as goal
 
 pub returns-then-kind_at-eq-DATE : goal.returns-then-kind_at-eq-DATE

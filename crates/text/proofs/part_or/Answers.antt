@@ -1,10 +1,10 @@
+-- A part, or the default.
 use native.Mathlib.Omega.{arith}
 use mathlib.Core.Path.{sym, ◌∙◌}
 use Prim.Native.Nat.{◌+◌}
 use lib.ListN.{length}
 use borrow.Author.Tests.{leb-true}
 use Rattle.text.proofs.Texts.{part-there, part-past}
-use borrow.Author.Rules.{rules}
 use Rattle.text.proofs.part_or.Goals as goal
 
 pub overflow_add-result : goal.overflow_add-result

@@ -1,8 +1,8 @@
+-- No fault of the loans.
 use mathlib.Core.Path.{sym, ap, ◌∙◌}
 use Prim.Native.Nat.{ℕ}
 use borrow.Author.Tests.{eq-eqb, ne_eqb}
 use Rattle.format.specs.Text.{text_in, text_span}
-use borrow.Author.Rules.{rules}
 use Rattle.text.proofs.span.Goals as goal
 
 pub returns-then-loan_fault-ne0 : goal.returns-then-loan_fault-ne0

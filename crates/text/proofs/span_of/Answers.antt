@@ -1,5 +1,5 @@
+-- A text, in the store.
 use Rattle.text.proofs.Texts.{in_store, past-store, no_text}
-use borrow.Author.Rules.{rules}
 use Rattle.text.proofs.span_of.Goals as goal
 
 pub returns-then-fits : goal.returns-then-fits

@@ -1,9 +1,9 @@
+-- No fault of the loans, and the part of the row's home.
 use mathlib.Core.Path.{sym, ap, ◌∙◌}
 use Prim.Native.Nat.{ℕ}
 use borrow.Author.Tests.{eq-eqb, ne_eqb}
 use Rattle.format.specs.Text.{text_or, text_span, text_in, text_from}
 use Rattle.text.proofs.Texts.{text-part}
-use borrow.Author.Rules.{rules}
 use Rattle.text.proofs.text.Goals as goal
 
 pub returns-then-loan_fault-ne0 : goal.returns-then-loan_fault-ne0

@@ -1,8 +1,8 @@
+-- Two lookups; the column is below the line's length by what is required.
 use mathlib.Core.Path.{ap, ◌∙◌}
 use mathlib.Core.List.{[]}
 use Prim.Native.Nat.{ℕ}
 use lib.ListN.{get_or}
-use borrow.Author.Rules.{rules}
 use Rattle.utf8.proofs.moved.Goals as goal
 
 pub returns : goal.returns

@@ -1,9 +1,7 @@
+-- What is left of the slice folds to the same state.
 use borrow.Author.Rules.{rules}
 use native.Mathlib.Omega.{arith}
-use mathlib.Core.Path.{◌≡◌, refl, sym, ◌∙◌}
-use Prim.Native.Nat.{◌-◌, ◌≤◌}
-use lib.ListN.{length, drop}
-use Rattle.utf8.specs.States.{fold_of}
+use mathlib.Core.Path.{refl, sym, ◌∙◌}
 use Rattle.utf8.proofs.Fold.{fold_plain}
 use Rattle.utf8.proofs.plain.Goals as goal
 

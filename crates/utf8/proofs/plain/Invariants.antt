@@ -1,11 +1,7 @@
-use borrow.Author.Rules.{rules}
-use native.Mathlib.Omega.{arith}
-use mathlib.Core.Path.{◌≡◌, refl, sym, ◌∙◌}
+use mathlib.Core.Path.{◌≡◌}
 use Prim.Native.Nat.{◌-◌, ◌≤◌}
 use lib.ListN.{length, drop}
 use Rattle.utf8.specs.States.{fold_of}
-use Rattle.utf8.proofs.Fold.{fold_plain}
-use borrow.Author.Tests.{leb-false}
 use Rattle.utf8.proofs.plain.Given as goal
 
 abbrev pub invariant-loop-i : goal.invariant-loop-i

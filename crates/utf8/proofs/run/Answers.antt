@@ -1,7 +1,7 @@
+-- What stands before `from` is passed over; nothing is left, the rest is folded, or nothing can follow.
 use native.Mathlib.Omega.{arith}
 use mathlib.Core.Path.{sym, ◌∙◌}
 use Rattle.utf8.proofs.Fold.{fold_end, fold_lost}
-use borrow.Author.Rules.{rules}
 use Rattle.utf8.proofs.run.Goals as goal
 
 pub returns-then-s-from : goal.returns-then-s-from

@@ -1,9 +1,8 @@
+-- What is left of the slice is folded from the state so far.
 use borrow.Author.Rules.{rules}
 use native.Mathlib.Omega.{arith}
-use mathlib.Core.Path.{◌≡◌, refl, sym, ◌∙◌}
-use Prim.Native.Nat.{◌-◌, ◌≤◌}
-use lib.ListN.{length, get_or, drop}
-use Rattle.utf8.specs.States.{text_broken, fold_of}
+use mathlib.Core.Path.{refl, sym, ◌∙◌}
+use lib.ListN.{get_or}
 use Rattle.utf8.proofs.States.{step_le}
 use Rattle.utf8.proofs.Moves.{class-column, looked-up}
 use Rattle.utf8.proofs.Fold.{fold_step, fold_plain, fold_end}

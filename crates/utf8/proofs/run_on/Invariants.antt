@@ -1,13 +1,7 @@
-use borrow.Author.Rules.{rules}
-use native.Mathlib.Omega.{arith}
-use mathlib.Core.Path.{◌≡◌, refl, sym, ◌∙◌}
+use mathlib.Core.Path.{◌≡◌}
 use Prim.Native.Nat.{◌-◌, ◌≤◌}
-use lib.ListN.{length, get_or, drop}
+use lib.ListN.{length, drop}
 use Rattle.utf8.specs.States.{text_broken, fold_of}
-use Rattle.utf8.proofs.States.{step_le}
-use Rattle.utf8.proofs.Moves.{class-column, looked-up}
-use Rattle.utf8.proofs.Fold.{fold_step, fold_plain, fold_end}
-use borrow.Author.Tests.{ltb-true}
 use Rattle.utf8.proofs.run_on.Given as goal
 
 abbrev pub invariant-loop-i : goal.invariant-loop-i

@@ -1,3 +1,4 @@
+-- A plain octet between characters, a number above the states, or a piece of one octet.
 use native.Mathlib.Omega.{arith}
 use mathlib.Core.Path.{sym, ◌∙◌}
 use Rattle.utf8.proofs.States.{broken-step}

@@ -1,5 +1,5 @@
+-- State 0 at the end is a text.
 use Rattle.utf8.proofs.Fold.{fold_valid}
-use borrow.Author.Rules.{rules}
 use Rattle.utf8.proofs.valid.Goals as goal
 
 pub returns : goal.returns

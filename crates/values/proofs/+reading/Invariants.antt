@@ -1,19 +1,10 @@
-use borrow.Author.Rules.{rules}
-use native.Mathlib.Omega.{arith}
-use mathlib.Core.Path.{◌≡◌, refl, sym, ap, ◌∙◌}
-use Prim.Native.Nat.{◌+◌, ◌*◌, ◌-◌, ℕ, ◌<◌}
+use mathlib.Core.Path.{◌≡◌}
+use Prim.Native.Nat.{◌+◌, ◌*◌, ◌-◌}
 use lib.ListN.{length}
 use Rattle.rows.specs.Memory.{memory, no_key, col_count}
-use Rattle.decide.specs.Outcomes.{done_of, begun_of, text_of, keyed_of, kind_in, body_in, body_no}
-use Rattle.format.specs.Decide as d
-use Rattle.format.specs.Reading.{by, value, couple, members, new_of, marked}
-use Rattle.scan.specs.Reads.{number_in}
-use Rattle.parts.specs.Heads.{sized_of, classed_of, sealed_member}
-use Rattle.scan.proofs.Does.{does_marker, does_closed, does_counted, does_key-end, does_sealed-key}
-use Rattle.scan.proofs.Then.{then, refused, passed, chosen}
-use Rattle.values.proofs.Loops.{Entries, Pairs, entries-start, entries-stop, entries_uncounted, entries-more, entries-end, pairs_start, pairs-stop, pairs-over, pairs-refused, pairs_uncounted, pairs-more, pairs-less}
-use Rattle.values.proofs.Splits.{vector-split, dictionary-split, sized-split, object-split, sized-over, classed-over, is-over}
-use Rattle.values.proofs.Values.{dynamics-none, dynamics-some, name-used, rows_above, leaf-over, value-short, value-marker, value-deep, value-marked}
+use Rattle.format.specs.Reading.{value, couple}
+use Rattle.parts.specs.Heads.{sealed_member}
+use Rattle.values.proofs.Loops.{Entries, Pairs}
 use Rattle.values.proofs.+reading.Given as goal
 
 abbrev pub decreases-array : goal.decreases-array

@@ -1,7 +1,7 @@
-use mathlib.Core.Path.{ap, ◌∙◌}
+-- The loans' test, then the value from zeroed loans; a refusal sets them to zero again.
+use mathlib.Core.Path.{ap}
 use Rattle.decide.specs.Outcomes.{done_of}
 use Rattle.whole.proofs.Messages.{read-fault, read-finished, read-refused}
-use borrow.Author.Rules.{rules}
 use Rattle.whole.proofs.read.Goals as goal
 
 pub returns-then-fault-ne0 : goal.returns-then-fault-ne0

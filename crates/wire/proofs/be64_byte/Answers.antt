@@ -1,3 +1,4 @@
+-- One byte of a number of eight.
 use native.Mathlib.Omega.{arith}
 use mathlib.Core.Path.{sym, ap, ◌∙◌}
 use Prim.Native.Nat.{◌*◌, ◌-◌}
@@ -8,7 +9,6 @@ use Rattle.wire.specs.declared.Part.TheVariants.{More, Whole}
 use Rattle.wire.proofs.Big.{digit-last, digit-more}
 use Rattle.wire.proofs.Digits.{too_many, too_large, before_small}
 use Rattle.wire.proofs.Shift.{join, shifted-out, not-shifted-out}
-use borrow.Author.Rules.{rules}
 use Rattle.wire.proofs.be64_byte.Goals as goal
 
 pub returns-then-left-gt7 : goal.returns-then-left-gt7

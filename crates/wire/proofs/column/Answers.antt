@@ -1,3 +1,4 @@
+-- The column of a signed number.
 use native.Mathlib.Omega.{arith}
 use mathlib.Core.Path.{◌∙◌}
 use Rattle.wire.proofs.Steps as steps

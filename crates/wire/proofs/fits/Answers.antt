@@ -1,3 +1,4 @@
+-- Whether so many fit.
 use native.Mathlib.Omega.{arith}
 use mathlib.Core.Path.{sym}
 use Prim.Native.Nat.{◌+◌}

@@ -1,6 +1,6 @@
+-- The number of which the low 29 bits are the remainder: turned by half of the modulus, and back.
 use native.Mathlib.Omega.{arith}
 use Rattle.wire.proofs.Steps as steps
-use borrow.Author.Rules.{rules}
 use Rattle.wire.proofs.integer.Goals as goal
 
 pub overflow_cast-result : goal.overflow_cast-result

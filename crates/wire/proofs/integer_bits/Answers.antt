@@ -1,10 +1,10 @@
+-- The remainder modulo 2 ^ 29, where the integer is in the range.
 use native.Mathlib.Omega.{arith}
 use mathlib.Core.Path.{sym, ap, ◌∙◌}
 use Prim.Native.Nat.{ℕ, ◌%◌, ◌^◌}
 use Rattle.wire.proofs.Sign as sign
 use Rattle.wire.proofs.Steps as steps
 use Rattle.wire.specs.declared.Bits.TheVariants.{Of}
-use borrow.Author.Rules.{rules}
 use Rattle.wire.proofs.integer_bits.Goals as goal
 
 pub returns-then-v-lt-LEAST : goal.returns-then-v-lt-LEAST

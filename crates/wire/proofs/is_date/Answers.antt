@@ -1,3 +1,4 @@
+-- The size is below an infinity's.
 use lib.Bits.{and_mask}
 use Rattle.wire.proofs.Dates as dates
 use Rattle.wire.proofs.is_date.Goals as goal

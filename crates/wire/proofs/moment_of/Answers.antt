@@ -1,3 +1,4 @@
+-- The whole part of the size, then the sign.
 use mathlib.Core.Path.{sym, ap, ◌∙◌}
 use Prim.Native.Nat.{ℕ, ◌^◌}
 use borrow.Author.Tests.{not-true, not-false}
@@ -10,7 +11,6 @@ use Rattle.wire.specs.Date.{bounded}
 use Rattle.wire.specs.declared.Moment.TheVariants.{At}
 use Rattle.wire.proofs.Dates as dates
 use Rattle.wire.proofs.Steps as steps
-use borrow.Author.Rules.{rules}
 use Rattle.wire.proofs.moment_of.Goals as goal
 
 pub whole_part-whole-requires : goal.whole_part-whole-requires

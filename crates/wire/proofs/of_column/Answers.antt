@@ -1,6 +1,6 @@
+-- The signed number of a column.
 use native.Mathlib.Omega.{arith}
 use Rattle.wire.proofs.Steps as steps
-use borrow.Author.Rules.{rules}
 use Rattle.wire.proofs.of_column.Goals as goal
 
 pub returns-then-x-lt9223372036854775808 : goal.returns-then-x-lt9223372036854775808

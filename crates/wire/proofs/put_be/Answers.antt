@@ -1,12 +1,11 @@
+-- The bytes of a number, one by one.
 use borrow.Author.Rules.{rules}
 use native.Mathlib.Omega.{arith}
-use mathlib.Core.Path.{◌≡◌, refl, sym, ◌∙◌}
-use Prim.Native.Nat.{◌+◌, ◌*◌, ◌-◌, ◌/◌, ◌^◌, ◌≤◌}
-use lib.ListN.{length, length-set}
+use mathlib.Core.Path.{refl, sym, ◌∙◌}
+use Prim.Native.Nat.{◌*◌, ◌-◌, ◌/◌, ◌^◌}
+use lib.ListN.{length-set}
 use Rattle.wire.proofs.Big as big
-use Rattle.wire.specs.Big.{bytes_of}
 use lib.Bits.{and_mask}
-use lib.Seq.{sets}
 use mir.Facts.{Fits-mask}
 use Rattle.wire.proofs.put_be.Goals as goal
 

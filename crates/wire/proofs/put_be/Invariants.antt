@@ -1,13 +1,8 @@
-use borrow.Author.Rules.{rules}
-use native.Mathlib.Omega.{arith}
-use mathlib.Core.Path.{◌≡◌, refl, sym, ◌∙◌}
-use Prim.Native.Nat.{◌+◌, ◌*◌, ◌-◌, ◌/◌, ◌^◌, ◌≤◌}
-use lib.ListN.{length, length-set}
-use Rattle.wire.proofs.Big as big
+use mathlib.Core.Path.{◌≡◌}
+use Prim.Native.Nat.{◌+◌, ◌≤◌}
+use lib.ListN.{length}
 use Rattle.wire.specs.Big.{bytes_of}
-use lib.Bits.{and_mask}
 use lib.Seq.{sets}
-use mir.Facts.{Fits-mask}
 use Rattle.wire.proofs.put_be.Given as goal
 
 abbrev pub invariant-loop-j : goal.invariant-loop-j

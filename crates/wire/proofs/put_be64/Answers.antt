@@ -1,9 +1,9 @@
+-- Eight bytes of a number, where they fit.
 use native.Mathlib.Omega.{arith}
 use Rattle.wire.proofs.Big.{bytes-length}
 use Rattle.wire.proofs.Room as room
 use Rattle.wire.specs.Big.{bytes_of}
 use lib.Dec.{lit≤}
-use borrow.Author.Rules.{rules}
 use Rattle.wire.proofs.put_be64.Goals as goal
 
 pub put_be-requires : goal.put_be-requires

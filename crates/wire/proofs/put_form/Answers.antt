@@ -1,3 +1,4 @@
+-- What is left to be stored from p on: j groups and the last byte.
 use Rattle.std.proofs.Common.{rules}
 use native.Mathlib.Omega.{arith}
 use mathlib.Core.Path.{◌≡◌, refl, sym, ap, ◌∙◌}

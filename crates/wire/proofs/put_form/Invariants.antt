@@ -1,17 +1,9 @@
-use borrow.Author.Rules.{rules}
-use native.Mathlib.Omega.{arith}
-use mathlib.Core.Path.{◌≡◌, refl, sym, ap, ◌∙◌}
+use mathlib.Core.Path.{◌≡◌}
 use mathlib.Core.List.{[], ◌∷◌, ◌++◌}
-use Prim.Native.Nat.{ℕ, ◌+◌, ◌/◌, ◌%◌, ◌^◌, ◌≤◌}
-use lib.ListN.{length, length-set}
-use mathlib.Core.Logic.{⊎_elim}
-use lib.Pow.{pow_pos, pow_mono}
+use Prim.Native.Nat.{◌+◌, ◌%◌, ◌^◌, ◌≤◌}
+use lib.ListN.{length}
 use lib.Seq.{sets}
-use native.Mathlib.Nat.{lt_of_lt_of_le, mod-lt}
-use borrow.Author.Tests.{eq-eqb, ne_eqb}
 use Rattle.wire.specs.U29.{groups, last_bits}
-use Rattle.wire.proofs.Shift.{with_bit, one_shifted, low_bits}
-use Rattle.wire.proofs.U29.{last_le, put-group, put_last}
 use Rattle.wire.proofs.put_form.Given as goal
 
 abbrev pub invariant-loop-j : goal.invariant-loop-j

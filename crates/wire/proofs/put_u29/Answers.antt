@@ -1,3 +1,4 @@
+-- The shortest form of a number, where it fits.
 use native.Mathlib.Omega.{arith}
 use mathlib.Core.Path.{sym, ap, ◌∙◌}
 use Prim.Native.Nat.{ℕ, ◌+◌}
@@ -5,7 +6,6 @@ use lib.Seq.{sets}
 use Rattle.wire.specs.U29.{form_of, u29}
 use Rattle.wire.proofs.Room as room
 use Rattle.wire.proofs.U29.{more_le, u29-length}
-use borrow.Author.Rules.{rules}
 use Rattle.wire.proofs.put_u29.Goals as goal
 
 pub overflow_add-k : goal.overflow_add-k

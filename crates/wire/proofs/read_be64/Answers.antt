@@ -1,8 +1,8 @@
+-- The number in eight bytes, each shifted to its place.
 use native.Mathlib.Omega.{arith}
 use Rattle.wire.proofs.Big as big
 use Rattle.wire.proofs.Room.{room}
 use lib.Dec.{lit≤}
-use borrow.Author.Rules.{rules}
 use Rattle.wire.proofs.read_be64.Goals as goal
 
 pub overflow_add-next : goal.overflow_add-next

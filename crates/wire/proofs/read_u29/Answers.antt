@@ -1,8 +1,5 @@
-use borrow.Author.Rules.{rules}
-use mathlib.Core.Path.{◌≡◌, refl, sym, ◌∙◌}
-use Prim.Native.Nat.{◌-◌}
-use lib.ListN.{length, drop}
-use Rattle.wire.specs.U29.{rest_of}
+-- What is read from p on, by what the bytes before gave, is what was to be read.
+use mathlib.Core.Path.{refl, sym, ◌∙◌}
 use Rattle.wire.proofs.U29.{rest_end, rest_part, part-within}
 use Rattle.wire.proofs.read_u29.Goals as goal
 

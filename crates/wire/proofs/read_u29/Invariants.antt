@@ -1,9 +1,7 @@
-use borrow.Author.Rules.{rules}
-use mathlib.Core.Path.{◌≡◌, refl, sym, ◌∙◌}
+use mathlib.Core.Path.{◌≡◌}
 use Prim.Native.Nat.{◌-◌}
 use lib.ListN.{length, drop}
 use Rattle.wire.specs.U29.{rest_of}
-use Rattle.wire.proofs.U29.{rest_end, rest_part, part-within}
 use Rattle.wire.proofs.read_u29.Given as goal
 
 abbrev pub invariant-loop-p : goal.invariant-loop-p

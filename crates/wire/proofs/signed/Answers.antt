@@ -1,6 +1,6 @@
+-- In the range, or at one of its ends.
 use mathlib.Core.Path.{sym, ◌∙◌}
 use Rattle.wire.proofs.Steps as steps
-use borrow.Author.Rules.{rules}
 use Rattle.wire.proofs.signed.Goals as goal
 
 pub overflow_sub-result : goal.overflow_sub-result

@@ -9,7 +9,6 @@ use Rattle.wire.specs.declared.Part.TheVariants.{More, Whole}
 use Rattle.wire.proofs.Digits.{too_many, too_large, before_small}
 use Rattle.wire.proofs.Shift.{join, shifted-out, not-shifted-out, clear, set-high, low7}
 use Rattle.wire.proofs.U29.{part-fourth, part-last, part-more}
-use borrow.Author.Rules.{rules}
 use Rattle.wire.proofs.u29_byte.Goals as goal
 
 pub returns-then-left-gt3 : goal.returns-then-left-gt3

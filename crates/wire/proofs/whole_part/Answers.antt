@@ -1,7 +1,7 @@
+-- By the field of the exponent.
 use native.Mathlib.Omega.{arith}
 use Rattle.wire.proofs.Dates as dates
 use Rattle.wire.proofs.Shift.{with_bit}
-use borrow.Author.Rules.{rules}
 use Rattle.wire.proofs.whole_part.Goals as goal
 
 pub returns-then-e-lt1023 : goal.returns-then-e-lt1023

@@ -1,3 +1,4 @@
+-- By the number of the purpose.
 use Rattle.words.proofs.Bodies.{xml-left}
 use Rattle.words.proofs.body_for.Goals as goal
 

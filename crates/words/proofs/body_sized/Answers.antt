@@ -1,3 +1,4 @@
+-- A reference, or an object that is entered.
 use mathlib.Core.Path.{refl, sym, ap, ◌∙◌}
 use Rattle.decide.specs.Outcomes.{done_of}
 use Rattle.format.specs.Step.{body_sized}
@@ -5,7 +6,6 @@ use Rattle.resume.specs.Steps.{after_of}
 use Rattle.resume.proofs.Decided.{gave-entered, stop-entered}
 use Rattle.resume.proofs.Refusals.{refuses}
 use Rattle.words.proofs.Shapes.{size_small}
-use borrow.Author.Rules.{rules}
 use Rattle.words.proofs.body_sized.Goals as goal
 
 pub returns-in_default : goal.returns-in_default

@@ -1,6 +1,6 @@
+-- No bytes, or the first.
 use Rattle.resume.proofs.Settled.{same}
 use Rattle.resume.proofs.Amounts.{no_bytes, more_bytes}
-use borrow.Author.Rules.{rules}
 use Rattle.words.proofs.filling.Goals as goal
 
 pub returns-then-n-eq0 : goal.returns-then-n-eq0

@@ -1,5 +1,5 @@
+-- A work of a flag.
 use mathlib.Core.Path.{sym}
-use borrow.Author.Rules.{rules}
 use Rattle.words.proofs.flag_work.Goals as goal
 
 pub returns : goal.returns

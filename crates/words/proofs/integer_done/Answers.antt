@@ -1,8 +1,8 @@
+-- The row's number decides, and then those around.
 use mathlib.Core.Path.{ap}
 use Rattle.decide.specs.Outcomes.{done_of}
 use Rattle.resume.proofs.Decided.{gave-integer, stop-integer}
 use Rattle.resume.proofs.Settled.{refuses-rows, same}
-use borrow.Author.Rules.{rules}
 use Rattle.words.proofs.integer_done.Goals as goal
 
 pub returns-in_default : goal.returns-in_default

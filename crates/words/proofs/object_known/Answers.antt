@@ -1,9 +1,9 @@
+-- The trait, the row's class, and the members.
 use mathlib.Core.Path.{refl, sym, ap, ◌∙◌}
 use Rattle.decide.specs.Outcomes.{done_of, traited_of}
 use Rattle.resume.specs.Steps.{after_of}
 use Rattle.resume.proofs.Decided.{gave-old_trait, stop-old_trait, gave-object, stop-object}
 use Rattle.resume.proofs.Refusals.{refuses}
-use borrow.Author.Rules.{rules}
 use Rattle.words.proofs.object_known.Goals as goal
 
 pub returns-in_default : goal.returns-in_default

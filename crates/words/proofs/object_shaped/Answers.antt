@@ -1,3 +1,4 @@
+-- A reference, or an object that is entered, by the shape of its trait.
 use mathlib.Core.Path.{refl, sym, ap, ◌∙◌}
 use Rattle.decide.specs.Outcomes.{done_of}
 use Rattle.format.specs.Step.{object_shaped}
@@ -7,7 +8,6 @@ use Rattle.resume.proofs.Decided.{gave-entered, stop-entered}
 use Rattle.resume.proofs.Refusals.{refuses}
 use Rattle.resume.proofs.Settled.{waits}
 use Rattle.words.proofs.Shapes.{shape_entered, never-entered}
-use borrow.Author.Rules.{rules}
 use Rattle.words.proofs.object_shaped.Goals as goal
 
 pub returns-in-Object : goal.returns-in-Object

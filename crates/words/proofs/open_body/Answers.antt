@@ -1,8 +1,8 @@
+-- By the body.
 use mathlib.Core.Path.{◌∙◌}
 use Rattle.format.specs.Step.{opened}
 use Rattle.format.specs.Numbers.{work_of}
 use Rattle.resume.proofs.Settled.{waits}
-use borrow.Author.Rules.{rules}
 use Rattle.words.proofs.open_body.Goals as goal
 
 pub returns-in-Xml : goal.returns-in-Xml

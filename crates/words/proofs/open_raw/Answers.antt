@@ -1,3 +1,4 @@
+-- Room for so many entries, then the flag.
 use native.Mathlib.Omega.{arith}
 use mathlib.Core.Path.{refl}
 use Rattle.format.specs.Step.{opened}
@@ -5,7 +6,6 @@ use Rattle.format.specs.Numbers.{work_of}
 use Rattle.resume.proofs.Refusals.{refuses}
 use Rattle.resume.proofs.Settled.{waits}
 use Rattle.words.proofs.Rooms.{roomed, unroomed, width_small}
-use borrow.Author.Rules.{rules}
 use Rattle.words.proofs.open_raw.Goals as goal
 
 pub overflow_mul-n : goal.overflow_mul-n

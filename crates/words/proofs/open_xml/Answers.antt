@@ -1,8 +1,8 @@
+-- Room, and the text.
 use mathlib.Core.Path.{refl}
 use Rattle.format.specs.Step.{opened}
 use Rattle.resume.proofs.Refusals.{refuses}
 use Rattle.words.proofs.Rooms.{roomed, unroomed}
-use borrow.Author.Rules.{rules}
 use Rattle.words.proofs.open_xml.Goals as goal
 
 pub returns-in_default : goal.returns-in_default

@@ -1,5 +1,5 @@
+-- By the width.
 use Rattle.format.specs.Numbers.{body_purpose}
-use borrow.Author.Rules.{rules}
 use Rattle.words.proofs.raw_purpose.Goals as goal
 
 pub returns-in-Four : goal.returns-in-Four

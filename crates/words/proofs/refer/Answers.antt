@@ -1,8 +1,8 @@
+-- The reference decides, and then those around.
 use mathlib.Core.Path.{ap}
 use Rattle.decide.specs.Outcomes.{done_of}
 use Rattle.resume.proofs.Decided.{gave-referred, stop-referred}
 use Rattle.resume.proofs.Settled.{refuses-rows, same}
-use borrow.Author.Rules.{rules}
 use Rattle.words.proofs.refer.Goals as goal
 
 pub returns-in_default : goal.returns-in_default

@@ -1,6 +1,6 @@
+-- Only a string value's row.
 use mathlib.Core.Path.{sym}
 use borrow.Author.Tests.{ne_eqb}
-use borrow.Author.Rules.{rules}
 use Rattle.words.proofs.reserved_for.Goals as goal
 
 pub returns-then-w-eq-STRING : goal.returns-then-w-eq-STRING

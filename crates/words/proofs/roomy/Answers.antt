@@ -1,10 +1,10 @@
+-- No bytes need none; others are reserved, and the row shows them.
 use mathlib.Core.Path.{refl, sym, ap, ◌∙◌}
 use Rattle.format.specs.Step.{roomy}
 use Rattle.decide.specs.Outcomes.{done_of, text_of}
 use Rattle.resume.proofs.Decided.{gave-reserved, stop-reserved, gave-bodied, stop-bodied}
 use Rattle.resume.proofs.Refusals.{refusals}
 use Rattle.words.proofs.Rooms.{some-room, no-text-there}
-use borrow.Author.Rules.{rules}
 use Rattle.words.proofs.roomy.Goals as goal
 
 pub returns-then-n-eq0 : goal.returns-then-n-eq0

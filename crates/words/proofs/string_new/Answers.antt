@@ -1,3 +1,4 @@
+-- Room for the text, which a string value's row shows at once.
 use native.Mathlib.Omega.{arith}
 use mathlib.Core.Path.{◌≡◌, refl, sym, ap, ◌∙◌}
 use Prim.Native.Nat.{ℕ, ◌<◌}
@@ -7,7 +8,6 @@ use Rattle.resume.proofs.Decided.{gave-reserved, stop-reserved}
 use Rattle.resume.proofs.Refusals.{refuses}
 use Rattle.resume.proofs.Settled.{waits}
 use Rattle.resume.proofs.Uses.{use_new, use_work-of, gave-reserved-by, stop-reserved-by}
-use borrow.Author.Rules.{rules}
 use Rattle.words.proofs.string_new.Goals as goal
 
 some : (n : ℕ) → 0 < n → n ≡ 0 → ⊥

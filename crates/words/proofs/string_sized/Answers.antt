@@ -1,3 +1,4 @@
+-- A string of the table, the empty one, or a new one.
 use mathlib.Core.Path.{refl, sym, ap, ◌∙◌}
 use Rattle.decide.specs.Outcomes.{text_of}
 use Rattle.format.specs.Step.{string_sized}
@@ -5,7 +6,6 @@ use Rattle.resume.specs.Steps.{after_of}
 use Rattle.resume.proofs.Decided.{gave-old-text, stop-old-text}
 use Rattle.resume.proofs.Refusals.{refuses}
 use Rattle.resume.proofs.Uses.{use_had, use_old}
-use borrow.Author.Rules.{rules}
 use Rattle.words.proofs.string_sized.Goals as goal
 
 pub returns-in_default : goal.returns-in_default

@@ -1,7 +1,7 @@
+-- An empty text, or its first byte.
 use Rattle.format.specs.Numbers.{work_of}
 use Rattle.resume.proofs.Settled.{waits, same}
 use Rattle.resume.proofs.Amounts.{no_text, more-text}
-use borrow.Author.Rules.{rules}
 use Rattle.words.proofs.texting.Goals as goal
 
 pub returns-then-n-eq0 : goal.returns-then-n-eq0

@@ -1,6 +1,6 @@
+-- The work of each use.
 use Rattle.format.specs.Numbers.{use_work}
 use Rattle.states.proofs.Purposes.{last_use}
-use borrow.Author.Rules.{rules}
 use Rattle.words.proofs.use_work.Goals as goal
 
 pub returns-in-11 : goal.returns-in-11

@@ -1,7 +1,7 @@
+-- An integer, an object, a body or a string.
 use borrow.Author.Tests.{ne_eqb, lt-leb}
 use Rattle.format.specs.Step.{worded}
 use Rattle.words.proofs.Bodies.{word-of-body}
-use borrow.Author.Rules.{rules}
 use Rattle.words.proofs.worded.Goals as goal
 
 pub returns-then-w-eq-INTEGER : goal.returns-then-w-eq-INTEGER

@@ -1,3 +1,4 @@
+-- A value opens what it holds with one less left; a row's values, the loops and the value come down by thirds.
 use borrow.Author.Rules.{rules}
 use native.Mathlib.Omega.{arith}
 use mathlib.Core.Path.{refl, sym, ap, ◌∙◌}

@@ -1,3 +1,4 @@
+-- Eight bytes always have room in the array.
 use native.Mathlib.Omega.{arith}
 use mathlib.Core.Path.{sym, ap}
 use Rattle.writer.proofs.Bytes as bytes

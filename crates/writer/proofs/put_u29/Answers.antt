@@ -1,3 +1,4 @@
+-- A U29 has four bytes at most, so that it always has room in the array.
 use native.Mathlib.Omega.{arith}
 use mathlib.Core.Path.{sym, ap}
 use Rattle.writer.proofs.Bytes as bytes

@@ -1,3 +1,4 @@
+-- A shift and an or put the low bit below the size.
 use lib.Dec.{lit<, lit≤}
 use Rattle.wire.proofs.Shift.{join}
 use Rattle.writer.proofs.size_word.Goals as goal

@@ -1,3 +1,4 @@
+-- A shift and an or put the four low bits below the count of names.
 use mathlib.Core.Path.{◌∙◌}
 use borrow.Author.Tests.{eq-eqb, ne_eqb}
 use lib.Dec.{lit<, lit≤}

@@ -1,3 +1,4 @@
+-- What a run that stopped tells, where it is one.
 use mathlib.Core.Path.{◌≡◌, sym, ap, ◌∙◌}
 use Prim.Native.Nat.{ℕ}
 use Rattle.format.specs.declared.Written.{Written}

@@ -1,3 +1,4 @@
+-- The loans, the rows, and the tree.
 use mathlib.Core.Path.{sym, ap, ◌∙◌}
 use Rattle.judge.specs.Answers.{judged_of}
 use Rattle.writer.proofs.Outcomes as outcomes
