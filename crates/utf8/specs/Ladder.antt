@@ -1,4 +1,4 @@
--- The text test as it was before the tables: comparisons one after the other. No code takes its steps by it; it stands here to be compared with (as-before).
+-- The text test as it was before the tables: comparisons one after the other. No code takes its steps by it; it stands here to be compared with (as_before).
 use Rattle.std.specs.Prelude.{Bool, cond, List, [], ◌∷◌, ℕ, ltb, eqb, get_or}
 use Rattle.utf8.specs.States.{text_broken, fold_by, valid_by}
 
