@@ -1,6 +1,6 @@
-#![tactic(auto)]
-
 // Reads one value from standard input by 4,096 bytes and lists its rows on standard output, or says why it is refused.
+
+#![tactic(auto)]
 
 ghost use Rattle.std.specs.Prelude.{◌≡◌};
 ghost use Rattle.amfrows.specs.Taken.{waiting, taken_of, with_taken};
@@ -89,7 +89,7 @@ fn with_taken(a: Answer, taken: usize) -> Answer
 
 // ---- reading
 
-// The state fed with the next piece of `input`. At the end of the input that is declared.
+// The state fed with the next piece of `input`. At the end of the input, which a read that fails is too, that is declared.
 fn go_on<R: Read>(
     input: &mut R,
     s: State,
@@ -99,13 +99,15 @@ fn go_on<R: Read>(
     objects: &mut [usize],
     traits: &mut [usize],
     names: &mut [usize],
-) -> io::Result<Fed> {
+) -> Fed {
     let mut piece = [0u8; 4096];
-    let n = input.read(&mut piece)?;
+    let Ok(n) = input.read(&mut piece) else {
+        return feed::ended(s, rows, store, strings, objects, traits, names);
+    };
     if n == 0 {
-        return Ok(feed::ended(s, rows, store, strings, objects, traits, names));
+        return feed::ended(s, rows, store, strings, objects, traits, names);
     }
-    Ok(feed::fed_on(s, rows, store, strings, objects, traits, names, &piece[..n]))
+    feed::fed_on(s, rows, store, strings, objects, traits, names, &piece[..n])
 }
 
 // The answer to all of `input`, with the bytes taken from all pieces.
@@ -117,17 +119,17 @@ fn read_input<R: Read>(
     objects: &mut [usize],
     traits: &mut [usize],
     names: &mut [usize],
-) -> io::Result<Answer> {
+) -> Answer {
     let mut f = feed::begun(rows, store, strings, objects, traits, names);
     let mut taken: usize = 0;
     for _ in 0..MOST_PIECES {
         if !waits(f.answer) {
             break;
         }
-        f = go_on(input, f.state, rows, store, strings, objects, traits, names)?;
+        f = go_on(input, f.state, rows, store, strings, objects, traits, names);
         taken = taken.wrapping_add(taken_of(f.answer));
     }
-    Ok(with_taken(f.answer, taken))
+    with_taken(f.answer, taken)
 }
 
 // ---- the program
@@ -166,6 +168,6 @@ fn main(rt: HostRuntime) -> io::Result<()> {
         &mut objects,
         &mut traits,
         &mut names,
-    )?;
+    );
     list(&rt, a, &rows, &store)
 }

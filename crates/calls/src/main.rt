@@ -1,8 +1,8 @@
-#![tactic(auto)]
-
 // What each public call answers, from a program over pinebuckle alone. The array of two "a" is read in two pieces, with a state that is lent to begin, feed
 // and end, and whole; its texts are asked for, and it is written again; a date is asked for its milliseconds; loans of wrong lengths and an early end are
 // refused. Each answer is a line of standard output.
+
+#![tactic(auto)]
 
 ghost use Rattle.rows.specs.Memory.{at_entry, at_exit};
 ghost use Rattle.pinebuckle.specs.Calls.{BeginContract, FeedContract, EndContract};

@@ -1,5 +1,3 @@
-#![tactic(auto)]
-
 // Holds the crates wire and utf8 to vectors from outside, the lines of leaves.txt, and writes for each kind of line how many
 // answers are right and how many wrong.
 //
@@ -11,6 +9,8 @@
 // Its answers are those of `decode_u29` and `encode_u29` of the crate amf 1.0.0, and of Rust: `from_be_bytes` and `to_be_bytes` of
 // `u32` and `u64`, shifts and casts of `i32` and `i64`, `from_bits`, `to_bits` and casts of `f64`, and `String::from_utf8`, whose error
 // tells a text that is cut from one that no more bytes can mend. The first lines of leaves.txt have the form of each kind.
+
+#![tactic(auto)]
 
 use lines::{Tally, Word};
 use std::io;

@@ -1,7 +1,7 @@
-#![tactic(auto)]
-
 // Lists of vectors: their lines, the words of a line, and the tally of right and wrong ones. What a function answers is its
 // definition in specs/Lines.antt.
+
+#![tactic(auto)]
 
 ghost use Rattle.std.specs.Prelude.{◌≡◌, ◌≤◌, length};
 ghost use Rattle.lines.specs.Lines.{

@@ -1,7 +1,7 @@
-#![tactic(auto)]
-
 // The listing of a reading, on standard output: a line for its answer, and a line for each row. Any numbers may stand in the rows; of a span, what lies in
 // the store is shown.
+
+#![tactic(auto)]
 
 ghost use Rattle.std.specs.Prelude.{◌≡◌, ◌+◌, ◌*◌, ◌≤◌, ◌<◌, min, length};
 ghost use Rattle.std.proofs.lemmas.List.Edits.{sets};

@@ -1,5 +1,6 @@
 // The calls of pinebuckle for C, exported under the names that include/pinebuckle.h declares. Each is the library's own of that name, and promises what that one
 // does. For C numbers are 64 bits, and a slice is a pointer and a count of elements.
+
 #![tactic(auto)]
 
 ghost use Rattle.rows.specs.Memory.{at_entry, at_exit};

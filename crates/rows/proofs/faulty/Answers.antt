@@ -1,4 +1,4 @@
--- Answers of faulty. @thing: what `proofs.py paths` lists; @kept:LOAN: the chain of its lengths.
+-- The tests of one loan, in their order.
 use mathlib.Core.Path.{sym}
 use borrow.Author.Tests.{lt-ltb, le-ltb}
 use Rattle.rows.proofs.faulty.Goals as goal

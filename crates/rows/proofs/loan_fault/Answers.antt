@@ -1,4 +1,4 @@
--- Answers of loan_fault. @thing: what `proofs.py paths` lists; @kept:LOAN: the chain of its lengths.
+-- The first loan that is at fault, by the tests in their order.
 use mathlib.Core.Path.{sym, ◌∙◌}
 use Rattle.rows.specs.Memory.{loan_fault}
 use Rattle.rows.proofs.loan_fault.Goals as goal

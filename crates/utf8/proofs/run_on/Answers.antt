@@ -16,7 +16,7 @@ loop-i-preserved-then-b-lt-PAST_PLAIN c = (
   omega arith,
   c.loop-i.invariant.1,
   c.loop-i.invariant.2 ∙ fold_plain
-      c.loop-i.at c.loop-i.i _ c.if-at-eq-BETWEEN.true
+      c.loop-i.at c.loop-i.i _ (omega arith)
       c.loop-i-test.true c.if-b-lt-PAST_PLAIN.true,
 )
 
