@@ -15,14 +15,20 @@ import re
 import sys
 
 WORD = re.compile(r'[^\s(){}.;,@"«»`]+')
-COMMENT = re.compile(r'(?<!\S)--[^\n]*')
+COMMENT = re.compile(r"(?<!\S)--[^\n]*")
+# A line that declares one name, a line that declares several constructors, and a name that an import gives.
 DECLARES = re.compile(
     r"^\s*(?:(?:unfoldable|abbrev|pub|private|local)\s+)*(?:(?:data|record)\s+)?([^\s(){}.;,@\"«»:|]+)\s*(?:(?:\{[^{}]*\}|\([^()]*\))\s*)*:(?!=)"
 )
 LIST = re.compile(r"^\s+([a-z][\w-]*(?:\s+[a-z][\w-]*)+)\s*:(?!=)")
 NAMED = re.compile(r"\bas ([a-z][\w]{3,})")
 USE = re.compile(r"^\s*(?:pub )?(?:ghost )?use ([\w·.'+-]+?)\.\{([^}]*)\}", re.M | re.S)
-OWN_TYPE = re.compile(r"\b(?:pub )?(?:enum|struct|fn|const|mod) (\w+)")
+ITEM = re.compile(r"\b(?:pub )?(?:enum|struct|fn|const|mod) (\w+)")
+CLAUSE = re.compile(r"(?:(?:requires|ensures)\s*\*?\s*(?:\w+\s*)?\{|ghost\s+use\b|ghost\s+\w+\s*:\s*\{|//)")
+CAMEL = re.compile(r"[a-z0-9][A-Z]")
+
+# A lemma that would have the name of the definition that it is about.
+LEMMAS = {w: w + "_lem" for w in ("fed_by", "pair_parts", "pairs_of", "too_long")}
 
 
 def files(ending):
@@ -36,7 +42,7 @@ def files(ending):
 def of_function(path):
     """Whether a file is a proof of one function: its names are goals."""
     parts = path.split(os.sep)
-    return parts[2] == "proofs" and len(parts) > 4
+    return path.endswith(".antt") and parts[2] == "proofs" and len(parts) > 4
 
 
 def snake(word):
@@ -44,99 +50,73 @@ def snake(word):
     return word[0] + word[1:].lower() if "_" in word else word
 
 
-def main():
-    table_file = sys.argv[sys.argv.index("--table") + 1] if "--table" in sys.argv else None
-    crates = set(os.listdir("crates"))
-    text = {p: open(p, encoding="utf-8").read() for p in list(files(".antt")) + list(files(".rt"))}
-    declared, goals, foreign, used, words = set(), set(), set(), set(), set()
-    for path, t in text.items():
-        code = COMMENT.sub("", t) if path.endswith(".antt") else t
-        for module, items in USE.findall(code):
-            ours = module.split(".")[0] == "Rattle" and module.split(".")[1] in crates
-            for item in re.split(r"[,\s]+", items):
-                if item and not ours:
-                    foreign.add(item.split(" as ")[0])
-        if not path.endswith(".antt"):
-            words.update(OWN_TYPE.findall(code))
-            used.update(re.findall(r"\w+", code))
-            continue
-        used.update(WORD.findall(code))
-        if not of_function(path):
-            declared.update(w for w in NAMED.findall(code) if re.search(r"[a-z0-9][A-Z]", w))
+class Names:
+    """The names that the files have: declared in specs/ and in laws, goals, brought from elsewhere, used at all, and those of items of src/."""
+
+    def __init__(self, text):
+        self.declared, self.goals, self.foreign, self.used, self.items = set(), set(), set(), set(), set()
+        crates = set(os.listdir("crates"))
+        for path, t in text.items():
+            code = COMMENT.sub("", t) if path.endswith(".antt") else t
+            for module, items in USE.findall(code):
+                ours = module.split(".")[0] == "Rattle" and module.split(".")[1] in crates
+                if not ours:
+                    self.foreign.update(item for item in re.split(r"[,\s]+", items) if item)
+            if path.endswith(".antt"):
+                self.used.update(WORD.findall(code))
+                self.declares(code, self.goals if of_function(path) else self.declared, of_function(path))
+            else:
+                self.items.update(ITEM.findall(code))
+                self.used.update(re.findall(r"\w+", code))
+
+    @staticmethod
+    def declares(code, names, goals):
+        if not goals:
+            names.update(w for w in NAMED.findall(code) if CAMEL.search(w))
         for line in code.split("\n"):
             m = LIST.match(line)
-            if m and not of_function(path):
-                declared.update(w for w in m.group(1).split() if re.search(r"[a-z0-9][A-Z]", w))
+            if m and not goals:
+                names.update(w for w in m.group(1).split() if CAMEL.search(w))
             m = DECLARES.match(line)
             if m and not line.strip().startswith(("use", "|", "λ", "[")) and m.group(1) not in ("λ", "let"):
-                (goals if of_function(path) else declared).add(m.group(1))
-    own = {w for w in declared - foreign - goals if re.match(r"[A-Za-z]", w)}
-    turned, stay = {}, []
-    first = {w: snake(w) for w in own if re.search(r"[a-z0-9][A-Z]", w) and w[0].islower() and "-" not in w}
-    names = {w for w in declared | foreign | words if "-" not in w} | set(first.values())
-    names -= {"a", "b", "c", "x", "y", "i", "j", "k", "m", "n", "p", "q", "r", "s", "t"}
+                names.add(m.group(1))
+
+
+def spellings(names):
+    """The new spelling of each name that turns, and those to look at, since the new spelling stands already."""
+    own = {w for w in names.declared - names.foreign - names.goals if re.match(r"[A-Za-z]", w)}
+    camel = {w: snake(w) for w in own if CAMEL.search(w) and w[0].islower() and "-" not in w}
+    whole = {w for w in names.declared | names.foreign | names.items if "-" not in w and len(w) > 1} | set(camel.values())
 
     def dashed(w):
-        parts = [p if p[0].isupper() else snake(p) for p in w.split("-")] if all(w.split("-")) else None
-        if not parts:
+        if not all(w.split("-")):
             return w
-        new = parts[0]
-        for before, part in zip(parts, parts[1:]):
-            new += ("-" if before in names and part in names else "_") + part
-        return new
+        first, *others = [p if p[0].isupper() else snake(p) for p in w.split("-")]
+        for before, part in zip([first, *others], others):
+            first += ("-" if before in whole and part in whole else "_") + part
+        return first
 
-    for w in sorted(own):
-        new = first.get(w) or (dashed(w) if "-" in w else w)
-        if new != w:
-            turned[w] = new
-    turned.update(LEMMAS)
+    turned = {w: camel.get(w) or dashed(w) for w in sorted(own)}
+    turned = {w: new for w, new in turned.items() if new != w} | LEMMAS
     counts = collections.Counter(turned.values())
-    for w, new in list(turned.items()):
-        if counts[new] > 1 or (new in used and new not in words) or new in foreign or new in goals:
-            stay.append((w, new))
-            if "-" in w or w not in first:
-                del turned[w]
-    for w, new in stay:
-        print(f"look: {w} and {new} fall together" + ("" if w in turned else ": stays"))
-
-    def turn(code, after_dot):
-        def one(m):
-            w = m.group(0)
-            if w not in turned:
-                return w
-            if w in LEMMAS and m.start() and m.string[m.start() - 1] == ".":
-                return w
-            if "-" in w and m.start() and m.string[m.start() - 1] == "." and not after_dot(m.string, m.start()):
-                return w
-            return turned[w]
-
-        return WORD.sub(one, code)
-
-    def head(string, at):
-        chain = re.search(r"[^\s(){};,@\"«»`]*$", string[:at]).group(0)
-        return chain.split(".")[0]
-
-    for path, t in text.items():
-        aliases = set(re.findall(r" as ([\w'+-]+)", t)) | {"Rattle"}
-        in_goals = path.endswith(".antt") and of_function(path)
-        after = (lambda s, at: head(s, at) in aliases) if in_goals else (lambda s, at: True)
-        if path.endswith(".antt"):
-            new = turn(t, after)
-        else:
-            new = turn_source(t, lambda code: turn(code, after))
-        if new != t:
-            with open(path, "w", encoding="utf-8") as f:
-                f.write(new)
-    if table_file:
-        with open(table_file, "w", encoding="utf-8") as f:
-            f.writelines(f"{old}\t{new}\n" for old, new in sorted(turned.items()))
-    print(f"{len(turned)} names turned, {len(stay)} to look at")
+    look = [(w, new) for w, new in turned.items() if counts[new] > 1 or new in (names.used - names.items) | names.foreign | names.goals]
+    for w, new in look:
+        if "-" in w or w not in camel:
+            del turned[w]
+    return turned, look
 
 
-# A lemma that would have the name of the definition that it is about.
-LEMMAS = {w: w + "_lem" for w in ("fed_by", "pair_parts", "pairs_of", "too_long")}
+def turn_code(code, turned, in_goals, aliases):
+    def one(m):
+        w, before = m.group(0), code[: m.start()]
+        if w not in turned or not before.endswith("."):
+            return turned.get(w, w)
+        head = re.search(r"[^\s(){};,@\"«»`]*$", before).group(0).split(".")[0]
+        # behind a dot stands a name of the check's, unless a module stands before it
+        kept = w in LEMMAS or ("-" in w and in_goals and head not in aliases)
+        return w if kept else turned[w]
 
-CLAUSE = re.compile(r"(?:(?:requires|ensures)\s*\*?\s*(?:\w+\s*)?\{|ghost\s+use\b|ghost\s+\w+\s*:\s*\{|//)")
+    return WORD.sub(one, code)
 
 
 def turn_source(t, turn):
@@ -161,6 +141,24 @@ def turn_source(t, turn):
             end = t.find(";", m.start()) + 1
             out.append(turn(t[m.start():end]))
         at = end
+
+
+def main():
+    text = {p: open(p, encoding="utf-8").read() for p in [*files(".antt"), *files(".rt")]}
+    turned, look = spellings(Names(text))
+    for w, new in look:
+        print(f"look: {w} and {new} fall together" + ("" if w in turned else ": stays"))
+    for path, t in text.items():
+        aliases = set(re.findall(r" as ([\w'+-]+)", t)) | {"Rattle"}
+        turn = lambda code: turn_code(code, turned, of_function(path), aliases)
+        new = turn(t) if path.endswith(".antt") else turn_source(t, turn)
+        if new != t:
+            with open(path, "w", encoding="utf-8") as f:
+                f.write(new)
+    if "--table" in sys.argv:
+        with open(sys.argv[sys.argv.index("--table") + 1], "w", encoding="utf-8") as f:
+            f.writelines(f"{old}\t{new}\n" for old, new in sorted(turned.items()))
+    print(f"{len(turned)} names turned, {len(look)} to look at")
 
 
 main()
