@@ -7,7 +7,7 @@ ghost use Rattle.amfrows.specs.Taken.{waiting, taken_of, with_taken};
 
 use feed::{Fed, State};
 use format::Answer;
-use rows::MESSAGE_LIMIT;
+use rows::{Loans, MESSAGE_LIMIT, Table};
 use std::io;
 use std::io::Read;
 
@@ -17,43 +17,23 @@ const MOST_PIECES: usize = MESSAGE_LIMIT + 1;
 
 // ---- answers
 
+// Whether more bytes are wanted.
 #[tactic(auto, unfolding(crate::specs::Taken::waiting))]
 fn waits(a: Answer) -> bool
     ensures { result ≡ waiting a }
 {
-    match a {
-        Answer::Waiting { taken: _ } => true,
-        Answer::Finished {
-            rows: _,
-            bytes: _,
-            taken: _,
-        } => false,
-        Answer::Refused {
-            no: _,
-            told: _,
-            place: _,
-            taken: _,
-        } => false,
-    }
+    matches!(a, Answer::Waiting { .. })
 }
 
+// The bytes taken.
 #[tactic(auto, unfolding(crate::specs::Taken::taken_of))]
 fn taken_of(a: Answer) -> usize
     ensures { result ≡ taken_of a }
 {
     match a {
-        Answer::Waiting { taken: t } => t,
-        Answer::Finished {
-            rows: _,
-            bytes: _,
-            taken: t,
-        } => t,
-        Answer::Refused {
-            no: _,
-            told: _,
-            place: _,
-            taken: t,
-        } => t,
+        Answer::Waiting { taken }
+        | Answer::Finished { taken, .. }
+        | Answer::Refused { taken, .. } => taken,
     }
 }
 
@@ -63,25 +43,17 @@ fn with_taken(a: Answer, taken: usize) -> Answer
     ensures { result ≡ with_taken a taken }
 {
     match a {
-        Answer::Waiting { taken: _ } => Answer::Waiting { taken },
-        Answer::Finished {
-            rows: n,
-            bytes: b,
-            taken: _,
-        } => Answer::Finished {
-            rows: n,
-            bytes: b,
-            taken,
-        },
+        Answer::Waiting { .. } => Answer::Waiting { taken },
+        Answer::Finished { rows, bytes, .. } => Answer::Finished { rows, bytes, taken },
         Answer::Refused {
-            no: n,
-            told: x,
-            place: p,
-            taken: _,
+            no,
+            told,
+            place,
+            ..
         } => Answer::Refused {
-            no: n,
-            told: x,
-            place: p,
+            no,
+            told,
+            place,
             taken,
         },
     }
@@ -90,43 +62,23 @@ fn with_taken(a: Answer, taken: usize) -> Answer
 // ---- reading
 
 // The state fed with the next piece of `input`. At the end of the input, which a read that fails is too, that is declared.
-fn go_on<R: Read>(
-    input: &mut R,
-    s: State,
-    rows: &mut [usize],
-    store: &mut [u8],
-    strings: &mut [usize],
-    objects: &mut [usize],
-    traits: &mut [usize],
-    names: &mut [usize],
-) -> Fed {
+fn go_on<R: Read>(input: &mut R, s: State, loans: &mut Loans) -> Fed {
     let mut piece = [0u8; 4096];
-    let Ok(n) = input.read(&mut piece) else {
-        return feed::ended(s, rows, store, strings, objects, traits, names);
-    };
-    if n == 0 {
-        return feed::ended(s, rows, store, strings, objects, traits, names);
+    match input.read(&mut piece) {
+        Ok(n) if 0 < n => feed::fed_on(s, loans, &piece[..n]),
+        _ => feed::ended(s, loans),
     }
-    feed::fed_on(s, rows, store, strings, objects, traits, names, &piece[..n])
 }
 
 // The answer to all of `input`, with the bytes taken from all pieces.
-fn read_input<R: Read>(
-    input: &mut R,
-    rows: &mut [usize],
-    store: &mut [u8],
-    strings: &mut [usize],
-    objects: &mut [usize],
-    traits: &mut [usize],
-    names: &mut [usize],
-) -> Answer {
-    let mut f = feed::begun(rows, store, strings, objects, traits, names);
+fn read_input<R: Read>(input: &mut R, loans: &mut Loans) -> Answer {
+    let mut f = feed::begun(loans);
     let mut taken: usize = 0;
     for _ in 0..MOST_PIECES {
         if !waits(f.answer) {
             break;
         }
-        f = go_on(input, f.state, rows, store, strings, objects, traits, names);
+        f = go_on(input, f.state, loans);
         taken = taken.wrapping_add(taken_of(f.answer));
     }
     with_taken(f.answer, taken)
@@ -135,24 +87,24 @@ fn read_input<R: Read>(
 // ---- the program
 
 // The listing. A reading whose input has ended waits no more.
-fn list<R: Print>(rt: &R, a: Answer, rows: &[usize], store: &[u8]) -> io::Result<()> {
+fn list<R: Print>(rt: &R, a: Answer, table: Table) -> io::Result<()> {
     match a {
-        Answer::Waiting { taken: _ } => Ok(()),
+        Answer::Waiting { .. } => Ok(()),
         Answer::Finished {
             rows: n,
-            bytes: b,
-            taken: t,
-        } => listing::print_finished(rt, rows, store, n, b, t),
+            bytes,
+            taken,
+        } => listing::print_finished(rt, table, n, bytes, taken),
         Answer::Refused {
-            no: n,
-            told: x,
-            place: p,
-            taken: _,
-        } => listing::print_refused(rt, n, x, p),
+            no,
+            told,
+            place,
+            ..
+        } => listing::print_refused(rt, no, told, place),
     }
 }
 
-// Lends 512 rows, 16,384 bytes, and 256 entries for each other loan.
+// Lends 512 rows, 16,384 bytes, and 256 entries for each other loan. Fixed memory, no heap.
 fn main(rt: HostRuntime) -> io::Result<()> {
     let mut rows = [0usize; 6144];
     let mut store = [0u8; 16384];
@@ -160,14 +112,18 @@ fn main(rt: HostRuntime) -> io::Result<()> {
     let mut objects = [0usize; 256];
     let mut traits = [0usize; 1280];
     let mut names = [0usize; 512];
-    let a = read_input(
-        &mut rt.stdin(),
-        &mut rows,
-        &mut store,
-        &mut strings,
-        &mut objects,
-        &mut traits,
-        &mut names,
-    );
-    list(&rt, a, &rows, &store)
+    let mut loans = Loans {
+        rows: &mut rows,
+        store: &mut store,
+        strings: &mut strings,
+        objects: &mut objects,
+        traits: &mut traits,
+        names: &mut names,
+    };
+    let a = read_input(&mut rt.stdin(), &mut loans);
+    let table = Table {
+        rows: &rows,
+        store: &store,
+    };
+    list(&rt, a, table)
 }

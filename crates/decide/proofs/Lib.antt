@@ -1,4 +1,5 @@
 pub mod Markers
+pub mod References
 pub mod Refusals
 pub mod Room
 pub mod Rows

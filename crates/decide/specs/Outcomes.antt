@@ -1,24 +1,13 @@
 -- What a decision's function answers, as the definition has it: an outcome, and the loan that it wrote.
-use Rattle.std.specs.Prelude.{Bool, List, ℕ}
+use Rattle.std.specs.Prelude.{Result, Ok, Err, cond, not, List, ℕ, leb, ltb, eqb, length, get_or}
 use Rattle.wire.specs.Put.{With1, with1}
-use Rattle.rows.specs.declared.Span.{Span}
-use Rattle.rows.specs.declared.Key.{Key}
-use Rattle.rows.specs.declared.Trait.{Trait}
+use Rattle.rows.specs.declared.Cursor.{Cursor}
+use Rattle.rows.specs.Memory.{col, put, row_used, col_kind, col_number, col_end}
+use Rattle.rows.specs.Kinds.{kind_reference}
 use Rattle.format.specs.Decide.{Out, stop, give}
 use Rattle.format.specs.Decide as d
-use Rattle.decide.specs.declared.Refusal.{Refusal}
-use Rattle.decide.specs.declared.Done.{Done}
-use Rattle.decide.specs.declared.Done.TheVariants as done
-use Rattle.decide.specs.declared.Begun.{Begun}
-use Rattle.decide.specs.declared.Begun.TheVariants as begun
-use Rattle.decide.specs.declared.Text.{Text}
-use Rattle.decide.specs.declared.Text.TheVariants as text
-use Rattle.decide.specs.declared.Traited.{Traited}
-use Rattle.decide.specs.declared.Traited.TheVariants as traited
-use Rattle.decide.specs.declared.Keyed.{Keyed}
-use Rattle.decide.specs.declared.Keyed.TheVariants as keyed
-use Rattle.decide.specs.declared.Whether.{Whether}
-use Rattle.decide.specs.declared.Whether.TheVariants as whether
+use Rattle.format.specs.declared.Refusal.{Refusal}
+use Rattle.format.specs.Refusals as no
 use Rattle.decide.specs.declared.Width.{Width}
 use Rattle.decide.specs.declared.Width.TheVariants as width
 use Rattle.decide.specs.declared.Kind.{Kind}
@@ -34,29 +23,20 @@ leaving R (give a R' c) = with1 (give a tt c) R'
 abbrev pub stopped : {A : Type 0} → Refusal → Out Unit A
 stopped r = stop r.number r.told r.place
 
-abbrev pub done_of : Done → Out Unit Unit
-done_of (done.Fine c) = give tt tt c
-done_of (done.Refused r) = stopped r
+-- what a decision that only looks gives, or a refusal; the cursor stays
+abbrev pub answer_in : {A : Type 0} → Result A Refusal → Cursor → Out Unit A
+answer_in (Ok a) c = give a tt c
+answer_in (Err r) c = stopped r
 
-abbrev pub begun_of : Begun → Out Unit ℕ
-begun_of (begun.Row row c) = give row tt c
-begun_of (begun.No r) = stopped r
+-- the cursor after a decision, or a refusal
+abbrev pub done_of : Result Cursor Refusal → Out Unit Unit
+done_of (Ok c) = give tt tt c
+done_of (Err r) = stopped r
 
-abbrev pub text_of : Text → Out Unit Span
-text_of (text.Have s c) = give s tt c
-text_of (text.No r) = stopped r
-
-abbrev pub traited_of : Traited → Out Unit Trait
-traited_of (traited.Known t c) = give t tt c
-traited_of (traited.No r) = stopped r
-
-abbrev pub keyed_of : Keyed → Out Unit Key
-keyed_of (keyed.With k c) = give k tt c
-keyed_of (keyed.No r) = stopped r
-
-abbrev pub whether_of : Whether → Out Unit Bool
-whether_of (whether.Is b c) = give b tt c
-whether_of (whether.No r) = stopped r
+-- what it gives, with the cursor after it, or a refusal
+abbrev pub out_of : {A : Type 0} → Result (A × Cursor) Refusal → Out Unit A
+out_of (Ok (a, c)) = give a tt c
+out_of (Err r) = stopped r
 
 -- the bytes of a raw vector's entry, as the definition has them
 abbrev pub width_in : Width → d.Width
@@ -86,11 +66,25 @@ body_after (d.sized x) = x
 abbrev pub body_no : ℕ → d.Body
 body_no b = body_after (d.kind_of b)
 
--- what follows a marker, the size word being of a given body
-abbrev pub kind_in : Kind → d.Body → d.Kind
-kind_in kind.Leaf x = d.leaf
-kind_in kind.Integer x = d.integer
-kind_in kind.Double x = d.double
-kind_in kind.String x = d.string
-kind_in kind.Object x = d.object
-kind_in kind.Sized x = d.sized x
+-- what follows a marker
+abbrev pub kind_in : Kind → d.Kind
+kind_in kind.Leaf = d.leaf
+kind_in kind.Integer = d.integer
+kind_in kind.Double = d.double
+kind_in kind.String = d.string
+kind_in kind.Object = d.object
+kind_in (kind.Sized x) = d.sized (body_in x)
+
+-- ---- references
+
+-- object i of the objects, which is used
+unfoldable pub old_object : ℕ → List ℕ → Cursor → Out Unit ℕ
+old_object i O c = cond (ltb (length O) c.objects) d.lost (cond (leb c.objects i) (d.refuse no.no_entry i c) (give (get_or O i 0) tt c))
+
+-- a row becomes a reference to object i, whose row is given
+unfoldable pub referred_to : ℕ → ℕ → ℕ → List ℕ → Cursor → Out (List ℕ) Unit
+referred_to row i object R c =
+    cond (not (row_used R c object)) d.lost
+    (cond (ltb c.rows (col R object col_end)) d.lost
+    (cond (eqb (col R object col_end) 0) (d.refuse no.open_object i c)
+    (d.in_row row (λ R. put (put (put R row col_kind kind_reference) row col_number object) row col_end c.rows) R c)))

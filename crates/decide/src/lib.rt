@@ -9,15 +9,9 @@ ghost use Rattle.wire.specs.Put.{with1};
 ghost use Rattle.rows.specs.Memory.{span_width};
 ghost use Rattle.format.specs.Decide as d;
 ghost use Rattle.format.specs.Refusals as no;
-ghost use Rattle.decide.specs.declared.Done.TheVariants as done;
-ghost use Rattle.decide.specs.declared.Begun.TheVariants as begun;
-ghost use Rattle.decide.specs.declared.Text.TheVariants as text;
-ghost use Rattle.decide.specs.declared.Traited.TheVariants as traited;
-ghost use Rattle.decide.specs.declared.Keyed.TheVariants as keyed;
-ghost use Rattle.decide.specs.declared.Whether.TheVariants as whether;
-ghost use Rattle.decide.specs.Outcomes.{leaving, done_of, begun_of, text_of, traited_of, keyed_of, whether_of, width_in, kind_in, body_in, body_no};
+ghost use Rattle.decide.specs.Outcomes.{leaving, answer_in, done_of, out_of, old_object, referred_to, width_in, kind_in, body_in, body_no};
 
-use format::refusals;
+use format::{Refusal, refusals};
 use rows::{
     Cursor, Key, ROW_WIDTH, Row, SPAN_SIZE, SPAN_WIDTH, Span, TRAIT_COUNT, TRAIT_DYNAMIC,
     TRAIT_FIRST, TRAIT_SIZE, TRAIT_WIDTH, Trait, columns, kinds, loans,
@@ -50,72 +44,26 @@ const MARKER_DICTIONARY: usize = markers::DICTIONARY as usize;
 
 const MARKER_LAST: usize = MARKER_DICTIONARY;
 
-// ---- answers
-
-#[derive(Clone, Copy)]
-pub struct Refusal {
-    pub number: usize,
-    pub told: usize,
-    pub place: usize,
-}
-
-#[derive(Clone, Copy)]
-pub enum Done {
-    Fine(Cursor),
-    Refused(Refusal),
-}
-
-// A row for a new value.
-#[derive(Clone, Copy)]
-pub enum Begun {
-    Row(usize, Cursor),
-    No(Refusal),
-}
-
-#[derive(Clone, Copy)]
-pub enum Text {
-    Have(Span, Cursor),
-    No(Refusal),
-}
-
-#[derive(Clone, Copy)]
-pub enum Traited {
-    Known(Trait, Cursor),
-    No(Refusal),
-}
-
-#[derive(Clone, Copy)]
-pub enum Keyed {
-    With(Key, Cursor),
-    No(Refusal),
-}
-
-#[derive(Clone, Copy)]
-pub enum Whether {
-    Is(bool, Cursor),
-    No(Refusal),
-}
-
 // The bytes of a raw vector's entry.
-#[derive(Clone, Copy)]
+#[derive(Clone, Copy, PartialEq, Eq)]
 pub enum Width {
     Four,
     Eight,
 }
 
-// What follows a marker: nothing; a U29; eight bytes; a string; an object word; or a size word.
-#[derive(Clone, Copy)]
+// What follows a marker: nothing; a U29; eight bytes; a string; an object word; or a size word, and of what.
+#[derive(Clone, Copy, PartialEq, Eq)]
 pub enum Kind {
     Leaf,
     Integer,
     Double,
     String,
     Object,
-    Sized,
+    Sized(Body),
 }
 
 // What the size word of a value is of.
-#[derive(Clone, Copy)]
+#[derive(Clone, Copy, PartialEq, Eq)]
 pub enum Body {
     Xml,
     Date,
@@ -127,61 +75,7 @@ pub enum Body {
     RawEight,
 }
 
-// ---- the refusal in an answer that is one
-
-pub fn not_done(a: Done) -> Refusal
-    ensures { (x : Refusal) → a ≡ done.Refused x → result ≡ x }
-{
-    match a {
-        Done::Fine(c) => lost(),
-        Done::Refused(x) => x,
-    }
-}
-
-pub fn no_row(a: Begun) -> Refusal
-    ensures { (x : Refusal) → a ≡ begun.No x → result ≡ x }
-{
-    match a {
-        Begun::Row(row, c) => lost(),
-        Begun::No(x) => x,
-    }
-}
-
-pub fn no_text(a: Text) -> Refusal
-    ensures { (x : Refusal) → a ≡ text.No x → result ≡ x }
-{
-    match a {
-        Text::Have(s, c) => lost(),
-        Text::No(x) => x,
-    }
-}
-
-pub fn no_trait(a: Traited) -> Refusal
-    ensures { (x : Refusal) → a ≡ traited.No x → result ≡ x }
-{
-    match a {
-        Traited::Known(t, c) => lost(),
-        Traited::No(x) => x,
-    }
-}
-
-pub fn no_key(a: Keyed) -> Refusal
-    ensures { (x : Refusal) → a ≡ keyed.No x → result ≡ x }
-{
-    match a {
-        Keyed::With(k, c) => lost(),
-        Keyed::No(x) => x,
-    }
-}
-
-pub fn no_flag(a: Whether) -> Refusal
-    ensures { (x : Refusal) → a ≡ whether.No x → result ≡ x }
-{
-    match a {
-        Whether::Is(b, c) => lost(),
-        Whether::No(x) => x,
-    }
-}
+// ---- refusals
 
 // The state doesn't hold together.
 pub fn lost() -> Refusal
@@ -209,7 +103,7 @@ pub fn refuse(c: Cursor, number: usize, told: usize) -> Refusal
 
 // What follows a marker.
 pub fn kind_of(b: usize) -> Kind
-    ensures { kind_in result (body_no b) ≡ d.kind_of b }
+    ensures { kind_in result ≡ d.kind_of b }
 {
     if b < MARKER_INTEGER {
         return Kind::Leaf;
@@ -229,11 +123,11 @@ pub fn kind_of(b: usize) -> Kind
     if b == MARKER_OBJECT {
         return Kind::Object;
     }
-    Kind::Sized
+    Kind::Sized(body_of(b))
 }
 
 // What the size word after a marker is of: where it is of none, XML.
-pub fn body_of(b: usize) -> Body
+fn body_of(b: usize) -> Body
     ensures { body_in result ≡ body_no b }
 {
     if b < MARKER_DATE {
@@ -270,48 +164,45 @@ pub fn body_of(b: usize) -> Body
 fn row_kind(b: usize) -> usize
     ensures { result ≡ cond (ltb b 3) (b + 1) b }
 {
-    if b < MARKER_TRUE {
-        return b + 1;
-    }
-    b
+    if b < MARKER_TRUE { b + 1 } else { b }
 }
 
 // Whether a marker is true.
 fn leaf_number(b: usize) -> usize
     ensures { result ≡ cond (eqb b 3) 1 0 }
 {
-    if b == MARKER_TRUE {
-        return 1;
-    }
-    0
+    usize::from(b == MARKER_TRUE)
 }
 
 // Undefined, null, false and true end with their marker.
 fn leaf_end(b: usize, next: usize) -> usize
     ensures { result ≡ cond (ltb b 4) next 0 }
 {
-    if b < MARKER_INTEGER {
-        return next;
-    }
-    0
+    if b < MARKER_INTEGER { next } else { 0 }
 }
 
 // A marker where `left` values may still open.
-pub fn marker(rows: &mut [usize], c: Cursor, key: Key, left: usize, b: usize) -> Begun
-    ensures { with1 (begun_of result) rows.new ≡ leaving rows.old (d.marker key left b rows.old c) }
+pub fn marker(
+    rows: &mut [usize],
+    c: Cursor,
+    key: Key,
+    left: usize,
+    b: usize,
+) -> Result<(usize, Cursor), Refusal>
+    ensures { with1 (out_of result) rows.new ≡ leaving rows.old (d.marker key left b rows.old c) }
 {
     let used = c.rows;
     if rows.len() / ROW_WIDTH < used {
-        return Begun::No(lost());
+        return Err(lost());
     }
     if MARKER_LAST < b {
-        return Begun::No(refuse(c, refusals::BAD_MARKER, b));
+        return Err(refuse(c, refusals::BAD_MARKER, b));
     }
     if left == 0 {
-        return Begun::No(refuse(c, refusals::TOO_DEEP, 0));
+        return Err(refuse(c, refusals::TOO_DEEP, 0));
     }
     if rows.len() / ROW_WIDTH <= used {
-        return Begun::No(refuse(c, refusals::NO_ROOM, loans::ROWS));
+        return Err(refuse(c, refusals::NO_ROOM, loans::ROWS));
     }
     let next = used + 1;
     rows::put_row(
@@ -331,81 +222,87 @@ pub fn marker(rows: &mut [usize], c: Cursor, key: Key, left: usize, b: usize) ->
     );
     let mut after = c;
     after.rows = next;
-    Begun::Row(used, after)
+    Ok((used, after))
 }
 
 // ---- a row goes on
 
 // It ends where the rows now end.
-pub fn closed(rows: &mut [usize], c: Cursor, row: usize) -> Done
+pub fn closed(rows: &mut [usize], c: Cursor, row: usize) -> Result<Cursor, Refusal>
     ensures { with1 (done_of result) rows.new ≡ leaving rows.old (d.closed row rows.old c) }
 {
     if rows::row_used(rows.len(), c.rows, row) {
         rows[row * ROW_WIDTH + columns::END] = c.rows;
-        return Done::Fine(c);
+        return Ok(c);
     }
-    Done::Refused(lost())
+    Err(lost())
 }
 
 // Its number is whole, and it ends.
-pub fn numbered(rows: &mut [usize], c: Cursor, row: usize, n: usize) -> Done
+pub fn numbered(rows: &mut [usize], c: Cursor, row: usize, n: usize) -> Result<Cursor, Refusal>
     ensures { with1 (done_of result) rows.new ≡ leaving rows.old (d.numbered row n rows.old c) }
 {
     if rows::row_used(rows.len(), c.rows, row) {
         rows[row * ROW_WIDTH + columns::NUMBER] = n;
         rows[row * ROW_WIDTH + columns::END] = c.rows;
-        return Done::Fine(c);
+        return Ok(c);
     }
-    Done::Refused(lost())
+    Err(lost())
 }
 
 // An integer's U29 is whole.
-pub fn integer_end(rows: &mut [usize], c: Cursor, row: usize, w: usize) -> Done
+pub fn integer_end(rows: &mut [usize], c: Cursor, row: usize, w: usize) -> Result<Cursor, Refusal>
     ensures { with1 (done_of result) rows.new ≡ leaving rows.old (d.integer_end row w rows.old c) }
 {
     numbered(rows, c, row, wire::column(wire::integer(w)))
 }
 
 // A date's eight bytes are whole.
-pub fn date_end(rows: &mut [usize], c: Cursor, row: usize, bits: usize) -> Done
+pub fn date_end(rows: &mut [usize], c: Cursor, row: usize, bits: usize) -> Result<Cursor, Refusal>
     ensures { with1 (done_of result) rows.new ≡ leaving rows.old (d.date_end row bits rows.old c) }
 {
     if !rows::row_used(rows.len(), c.rows, row) {
-        return Done::Refused(lost());
+        return Err(lost());
     }
     if wire::is_date(bits) {
         return numbered(rows, c, row, bits);
     }
-    Done::Refused(refuse(c, refusals::BAD_DATE, bits))
+    Err(refuse(c, refusals::BAD_DATE, bits))
 }
 
 // The row's body.
-pub fn bodied(rows: &mut [usize], c: Cursor, row: usize, s: Span) -> Done
+pub fn bodied(rows: &mut [usize], c: Cursor, row: usize, s: Span) -> Result<Cursor, Refusal>
     ensures { with1 (done_of result) rows.new ≡ leaving rows.old (d.bodied row s rows.old c) }
 {
     if rows::row_used(rows.len(), c.rows, row) {
         rows[row * ROW_WIDTH + columns::BODY_BEGIN] = s.begin;
         rows[row * ROW_WIDTH + columns::BODY_SIZE] = s.size;
-        return Done::Fine(c);
+        return Ok(c);
     }
-    Done::Refused(lost())
+    Err(lost())
 }
 
 // A class, or mark 0 and no span.
-fn classed(rows: &mut [usize], c: Cursor, row: usize, mark: usize, s: Span) -> Done
+fn classed(
+    rows: &mut [usize],
+    c: Cursor,
+    row: usize,
+    mark: usize,
+    s: Span,
+) -> Result<Cursor, Refusal>
     ensures { with1 (done_of result) rows.new ≡ leaving rows.old (d.classed row mark s rows.old c) }
 {
     if rows::row_used(rows.len(), c.rows, row) {
         rows[row * ROW_WIDTH + columns::CLASS_MARK] = mark;
         rows[row * ROW_WIDTH + columns::BODY_BEGIN] = s.begin;
         rows[row * ROW_WIDTH + columns::BODY_SIZE] = s.size;
-        return Done::Fine(c);
+        return Ok(c);
     }
-    Done::Refused(lost())
+    Err(lost())
 }
 
 // An object's class: an empty one is none.
-pub fn object_class(rows: &mut [usize], c: Cursor, row: usize, t: Trait) -> Done
+pub fn object_class(rows: &mut [usize], c: Cursor, row: usize, t: Trait) -> Result<Cursor, Refusal>
     ensures { with1 (done_of result) rows.new ≡ leaving rows.old (d.object_class row t rows.old c) }
 {
     let s = Span {
@@ -419,7 +316,13 @@ pub fn object_class(rows: &mut [usize], c: Cursor, row: usize, t: Trait) -> Done
 }
 
 // A vector's class: `*` is none.
-pub fn vector_class(rows: &mut [usize], c: Cursor, row: usize, star: bool, s: Span) -> Done
+pub fn vector_class(
+    rows: &mut [usize],
+    c: Cursor,
+    row: usize,
+    star: bool,
+    s: Span,
+) -> Result<Cursor, Refusal>
     ensures { with1 (done_of result) rows.new ≡ leaving rows.old (d.vector_class row star s rows.old c) }
 {
     if star {
@@ -432,60 +335,60 @@ pub fn vector_class(rows: &mut [usize], c: Cursor, row: usize, star: bool, s: Sp
 pub fn fixed(b: usize) -> usize
     ensures { result ≡ d.fixed b }
 {
-    if b == 0 {
-        return 0;
-    }
-    1
+    usize::from(b != 0)
 }
 
 // A flag byte: weak is only 1.
 pub fn weak(b: usize) -> usize
     ensures { result ≡ d.weak b }
 {
-    if b == 1 {
-        return 1;
-    }
-    0
+    usize::from(b == 1)
 }
 
-pub fn flagged(rows: &mut [usize], c: Cursor, row: usize, flag: usize) -> Done
+pub fn flagged(rows: &mut [usize], c: Cursor, row: usize, flag: usize) -> Result<Cursor, Refusal>
     ensures { with1 (done_of result) rows.new ≡ leaving rows.old (d.flagged row flag rows.old c) }
 {
     if rows::row_used(rows.len(), c.rows, row) {
         rows[row * ROW_WIDTH + columns::FLAG] = flag;
-        return Done::Fine(c);
+        return Ok(c);
     }
-    Done::Refused(lost())
+    Err(lost())
 }
 
 // An entry is finished, after `done` others, each with a row of its own. A column past the rows is nowhere, and nothing is written.
-pub fn counted(rows: &mut [usize], c: Cursor, row: usize, col: usize, done: usize) -> Done
+pub fn counted(
+    rows: &mut [usize],
+    c: Cursor,
+    row: usize,
+    col: usize,
+    done: usize,
+) -> Result<Cursor, Refusal>
     ensures { with1 (done_of result) rows.new ≡ leaving rows.old (d.counted row col done rows.old c) }
 {
     if c.rows <= done {
-        return Done::Refused(lost());
+        return Err(lost());
     }
     if !rows::row_used(rows.len(), c.rows, row) {
-        return Done::Refused(lost());
+        return Err(lost());
     }
     if rows.len() - row * ROW_WIDTH <= col {
-        return Done::Fine(c);
+        return Ok(c);
     }
     rows[row * ROW_WIDTH + col] = done + 1;
-    Done::Fine(c)
+    Ok(c)
 }
 
 // A dictionary's key is finished, after `done` pairs.
-pub fn key_end(rows: &[usize], c: Cursor, row: usize, done: usize) -> Done
-    ensures { done_of result ≡ d.key_end row done rows.now c }
+pub fn key_end(rows: &[usize], c: Cursor, row: usize, done: usize) -> Result<(), Refusal>
+    ensures { answer_in result c ≡ d.key_end row done rows.now c }
 {
     if c.rows <= done {
-        return Done::Refused(lost());
+        return Err(lost());
     }
     if rows::row_used(rows.len(), c.rows, row) {
-        return Done::Fine(c);
+        return Ok(());
     }
-    Done::Refused(lost())
+    Err(lost())
 }
 
 pub fn width_of(w: Width) -> usize
@@ -501,90 +404,94 @@ pub fn width_of(w: Width) -> usize
 fn without(size: usize, n: usize) -> usize
     ensures { result ≡ size - n }
 {
-    if size <= n {
-        return 0;
-    }
-    size - n
+    size.saturating_sub(n)
 }
 
 // `n` bytes of a raw vector are still to come.
-pub fn grown(rows: &mut [usize], c: Cursor, row: usize, w: Width, s: Span, n: usize) -> Done
+pub fn grown(
+    rows: &mut [usize],
+    c: Cursor,
+    row: usize,
+    w: Width,
+    s: Span,
+    n: usize,
+) -> Result<Cursor, Refusal>
     ensures { with1 (done_of result) rows.new ≡ leaving rows.old (d.grown row (width_in w) s n rows.old c) }
 {
     if rows::row_used(rows.len(), c.rows, row) {
         rows[row * ROW_WIDTH + columns::COUNT] = without(s.size, n) / width_of(w);
-        return Done::Fine(c);
+        return Ok(c);
     }
-    Done::Refused(lost())
+    Err(lost())
 }
 
 // ---- texts and bytes
 
 // Text `i` of the strings.
-pub fn old_text(strings: &[usize], c: Cursor, i: usize) -> Text
-    ensures { text_of result ≡ d.old_text i strings.now c }
+pub fn old_text(strings: &[usize], c: Cursor, i: usize) -> Result<Span, Refusal>
+    ensures { answer_in result c ≡ d.old_text i strings.now c }
 {
     if strings.len() / SPAN_WIDTH < c.strings {
-        return Text::No(lost());
+        return Err(lost());
     }
     if c.strings <= i {
-        return Text::No(refuse(c, refusals::NO_ENTRY, i));
+        return Err(refuse(c, refusals::NO_ENTRY, i));
     }
     let begin = strings[i * SPAN_WIDTH];
     let size = strings[i * SPAN_WIDTH + SPAN_SIZE];
     if wire::fits(c.store, begin, size) {
-        return Text::Have(Span { begin, size }, c);
+        return Ok(Span { begin, size });
     }
-    Text::No(lost())
+    Err(lost())
 }
 
 // Room for `n` bytes in a store of `len` is reserved before they come.
-pub fn reserved(len: usize, c: Cursor, n: usize) -> Text
-    ensures { (B : List ℕ) → length B ≡ len → text_of result ≡ d.reserved n B c }
+pub fn reserved(len: usize, c: Cursor, n: usize) -> Result<(Span, Cursor), Refusal>
+    ensures { (B : List ℕ) → length B ≡ len → out_of result ≡ d.reserved n B c }
 {
     let used = c.store;
     if len < used {
-        return Text::No(lost());
+        return Err(lost());
     }
     if wire::fits(len, used, n) {
         let mut after = c;
         after.store = used + n;
-        return Text::Have(
+        return Ok((
             Span {
                 begin: used,
                 size: n,
             },
             after,
-        );
+        ));
     }
-    Text::No(refuse(c, refusals::NO_ROOM, loans::STORE))
+    Err(refuse(c, refusals::NO_ROOM, loans::STORE))
 }
 
 // A byte of a span, `n` more to come after it.
-pub fn stored(store: &mut [u8], c: Cursor, s: Span, n: usize, b: u8) -> Done
+pub fn stored(store: &mut [u8], c: Cursor, s: Span, n: usize, b: u8) -> Result<Cursor, Refusal>
     ensures { with1 (done_of result) store.new ≡ leaving store.old (d.stored s n b store.old c) }
 {
     if store.len() < c.store {
-        return Done::Refused(lost());
+        return Err(lost());
     }
     if s.size <= n {
-        return Done::Refused(lost());
+        return Err(lost());
     }
     if wire::fits(c.store, s.begin, s.size) {
         store[s.begin + (s.size - (n + 1))] = b;
-        return Done::Fine(c);
+        return Ok(c);
     }
-    Done::Refused(lost())
+    Err(lost())
 }
 
 // A text's last byte: the verdict on it.
-pub fn judged(c: Cursor, valid: bool) -> Done
-    ensures { done_of result ≡ d.judged valid c }
+pub fn judged(c: Cursor, valid: bool) -> Result<(), Refusal>
+    ensures { answer_in result c ≡ d.judged valid c }
 {
     if valid {
-        return Done::Fine(c);
+        return Ok(());
     }
-    Done::Refused(refuse(c, refusals::BAD_TEXT, 0))
+    Err(refuse(c, refusals::BAD_TEXT, 0))
 }
 
 // Span `i` of a table of spans.
@@ -597,75 +504,92 @@ fn put_span(table: &mut [usize], i: usize, s: Span)
 }
 
 // A text's last byte, where it enters the strings.
-pub fn text_end(strings: &mut [usize], c: Cursor, s: Span, valid: bool) -> Text
-    ensures { with1 (text_of result) strings.new ≡ leaving strings.old (d.text_end s valid strings.old c) }
+pub fn text_end(
+    strings: &mut [usize],
+    c: Cursor,
+    s: Span,
+    valid: bool,
+) -> Result<(Span, Cursor), Refusal>
+    ensures { with1 (out_of result) strings.new ≡ leaving strings.old (d.text_end s valid strings.old c) }
 {
     let used = c.strings;
     if strings.len() / SPAN_WIDTH < used {
-        return Text::No(lost());
+        return Err(lost());
     }
     if !valid {
-        return Text::No(refuse(c, refusals::BAD_TEXT, 0));
+        return Err(refuse(c, refusals::BAD_TEXT, 0));
     }
     if strings.len() / SPAN_WIDTH <= used {
-        return Text::No(refuse(c, refusals::NO_ROOM, loans::STRINGS));
+        return Err(refuse(c, refusals::NO_ROOM, loans::STRINGS));
     }
     put_span(strings, used, s);
     let mut after = c;
     after.strings = used + 1;
-    Text::Have(s, after)
+    Ok((s, after))
 }
 
 // ---- objects
 
 // `row` enters the objects.
-pub fn entered(objects: &mut [usize], c: Cursor, row: usize) -> Done
+pub fn entered(objects: &mut [usize], c: Cursor, row: usize) -> Result<Cursor, Refusal>
     ensures { with1 (done_of result) objects.new ≡ leaving objects.old (d.entered row objects.old c) }
 {
     let used = c.objects;
     if c.rows <= row {
-        return Done::Refused(lost());
+        return Err(lost());
     }
     if objects.len() < used {
-        return Done::Refused(lost());
+        return Err(lost());
     }
     if objects.len() <= used {
-        return Done::Refused(refuse(c, refusals::NO_ROOM, loans::OBJECTS));
+        return Err(refuse(c, refusals::NO_ROOM, loans::OBJECTS));
     }
     objects[used] = row;
     let mut after = c;
     after.objects = used + 1;
-    Done::Fine(after)
+    Ok(after)
 }
 
-// `row` becomes a reference to object `i`.
-pub fn referred(rows: &mut [usize], objects: &[usize], c: Cursor, row: usize, i: usize) -> Done
-    ensures { with1 (done_of result) rows.new ≡ leaving rows.old (d.referred row i objects.now rows.old c) }
+// Object `i` of the objects: its row.
+pub fn old_object(objects: &[usize], c: Cursor, i: usize) -> Result<usize, Refusal>
+    ensures { answer_in result c ≡ old_object i objects.now c }
 {
     if objects.len() < c.objects {
-        return Done::Refused(lost());
+        return Err(lost());
     }
     if c.objects <= i {
-        return Done::Refused(refuse(c, refusals::NO_ENTRY, i));
+        return Err(refuse(c, refusals::NO_ENTRY, i));
     }
-    let object = objects[i];
+    Ok(objects[i])
+}
+
+// `row` becomes a reference to object `i`, whose row is `object`.
+pub fn referred(
+    rows: &mut [usize],
+    c: Cursor,
+    row: usize,
+    i: usize,
+    object: usize,
+) -> Result<Cursor, Refusal>
+    ensures { with1 (done_of result) rows.new ≡ leaving rows.old (referred_to row i object rows.old c) }
+{
     if !rows::row_used(rows.len(), c.rows, object) {
-        return Done::Refused(lost());
+        return Err(lost());
     }
-    let end = rows::end_at(rows, object);
+    let end = rows::column(rows, object, columns::END);
     if c.rows < end {
-        return Done::Refused(lost());
+        return Err(lost());
     }
     if end == 0 {
-        return Done::Refused(refuse(c, refusals::OPEN_OBJECT, i));
+        return Err(refuse(c, refusals::OPEN_OBJECT, i));
     }
     if rows::row_used(rows.len(), c.rows, row) {
         rows[row * ROW_WIDTH + columns::KIND] = kinds::REFERENCE;
         rows[row * ROW_WIDTH + columns::NUMBER] = object;
         rows[row * ROW_WIDTH + columns::END] = c.rows;
-        return Done::Fine(c);
+        return Ok(c);
     }
-    Done::Refused(lost())
+    Err(lost())
 }
 
 // ---- traits
@@ -674,21 +598,18 @@ pub fn referred(rows: &mut [usize], objects: &[usize], c: Cursor, row: usize, i:
 fn trait_holds(c: Cursor, t: Trait) -> bool
     ensures { result ≡ d.trait_holds c t }
 {
-    if !wire::fits(c.store, t.begin, t.size) {
-        return false;
-    }
-    wire::fits(c.names, t.first, t.count)
+    wire::fits(c.store, t.begin, t.size) && wire::fits(c.names, t.first, t.count)
 }
 
 // Trait `i` of the traits.
-pub fn old_trait(traits: &[usize], c: Cursor, i: usize) -> Traited
-    ensures { traited_of result ≡ d.old_trait i traits.now c }
+pub fn old_trait(traits: &[usize], c: Cursor, i: usize) -> Result<Trait, Refusal>
+    ensures { answer_in result c ≡ d.old_trait i traits.now c }
 {
     if traits.len() / TRAIT_WIDTH < c.traits {
-        return Traited::No(lost());
+        return Err(lost());
     }
     if c.traits <= i {
-        return Traited::No(refuse(c, refusals::NO_ENTRY, i));
+        return Err(refuse(c, refusals::NO_ENTRY, i));
     }
     let t = Trait {
         begin: traits[i * TRAIT_WIDTH],
@@ -698,9 +619,9 @@ pub fn old_trait(traits: &[usize], c: Cursor, i: usize) -> Traited
         count: traits[i * TRAIT_WIDTH + TRAIT_COUNT],
     };
     if trait_holds(c, t) {
-        return Traited::Known(t, c);
+        return Ok(t);
     }
-    Traited::No(lost())
+    Err(lost())
 }
 
 // A new trait of `n` names whose class is whole; one with no names has first name 0.
@@ -721,35 +642,35 @@ pub fn trait_of(c: Cursor, s: Span, n: usize, dynamic: usize) -> Trait
 }
 
 // A field name's span, as it is read.
-pub fn named(names: &mut [usize], c: Cursor, s: Span) -> Text
-    ensures { with1 (text_of result) names.new ≡ leaving names.old (d.named s names.old c) }
+pub fn named(names: &mut [usize], c: Cursor, s: Span) -> Result<(Span, Cursor), Refusal>
+    ensures { with1 (out_of result) names.new ≡ leaving names.old (d.named s names.old c) }
 {
     let used = c.names;
     if names.len() / SPAN_WIDTH < used {
-        return Text::No(lost());
+        return Err(lost());
     }
     if names.len() / SPAN_WIDTH <= used {
-        return Text::No(refuse(c, refusals::NO_ROOM, loans::NAMES));
+        return Err(refuse(c, refusals::NO_ROOM, loans::NAMES));
     }
     put_span(names, used, s);
     let mut after = c;
     after.names = used + 1;
-    Text::Have(s, after)
+    Ok((s, after))
 }
 
 // A trait is entered after its last name.
-pub fn trait_end(traits: &mut [usize], c: Cursor, t: Trait) -> Done
+pub fn trait_end(traits: &mut [usize], c: Cursor, t: Trait) -> Result<Cursor, Refusal>
     ensures { with1 (done_of result) traits.new ≡ leaving traits.old (d.trait_end t traits.old c) }
 {
     let used = c.traits;
     if traits.len() / TRAIT_WIDTH < used {
-        return Done::Refused(lost());
+        return Err(lost());
     }
     if !trait_holds(c, t) {
-        return Done::Refused(lost());
+        return Err(lost());
     }
     if traits.len() / TRAIT_WIDTH <= used {
-        return Done::Refused(refuse(c, refusals::NO_ROOM, loans::TRAITS));
+        return Err(refuse(c, refusals::NO_ROOM, loans::TRAITS));
     }
     traits[used * TRAIT_WIDTH] = t.begin;
     traits[used * TRAIT_WIDTH + TRAIT_SIZE] = t.size;
@@ -758,47 +679,44 @@ pub fn trait_end(traits: &mut [usize], c: Cursor, t: Trait) -> Done
     traits[used * TRAIT_WIDTH + TRAIT_COUNT] = t.count;
     let mut after = c;
     after.traits = used + 1;
-    Done::Fine(after)
+    Ok(after)
 }
 
 // The key of a sealed member: name `i` of the names.
-pub fn sealed_key(names: &[usize], c: Cursor, i: usize) -> Keyed
-    ensures { keyed_of result ≡ d.sealed_key i names.now c }
+pub fn sealed_key(names: &[usize], c: Cursor, i: usize) -> Result<Key, Refusal>
+    ensures { answer_in result c ≡ d.sealed_key i names.now c }
 {
     if names.len() / SPAN_WIDTH < c.names {
-        return Keyed::No(lost());
+        return Err(lost());
     }
     if c.names <= i {
-        return Keyed::No(lost());
+        return Err(lost());
     }
     let begin = names[i * SPAN_WIDTH];
     let size = names[i * SPAN_WIDTH + SPAN_SIZE];
     if wire::fits(c.store, begin, size) {
-        return Keyed::With(
-            Key {
-                mark: 1,
-                begin,
-                size,
-            },
-            c,
-        );
+        return Ok(Key {
+            mark: 1,
+            begin,
+            size,
+        });
     }
-    Keyed::No(lost())
+    Err(lost())
 }
 
 // Whether a vector's class is `*`.
-pub fn starred(store: &[u8], c: Cursor, s: Span) -> Whether
-    ensures { whether_of result ≡ d.starred s store.now c }
+pub fn starred(store: &[u8], c: Cursor, s: Span) -> Result<bool, Refusal>
+    ensures { answer_in result c ≡ d.starred s store.now c }
 {
     if s.size != 1 {
-        return Whether::Is(false, c);
+        return Ok(false);
     }
     if store.len() < c.store {
-        return Whether::No(lost());
+        return Err(lost());
     }
     let begin = s.begin;
     if wire::fits(c.store, begin, s.size) {
-        return Whether::Is(store[begin] == b'*', c);
+        return Ok(store[begin] == b'*');
     }
-    Whether::No(lost())
+    Err(lost())
 }

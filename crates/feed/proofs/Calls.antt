@@ -6,7 +6,10 @@ use Prim.Native.Nat.{ℕ, zero, suc}
 use lib.Dec.{eqb}
 use lib.ListN.{replicate}
 use borrow.Author.Tests.{ne_eqb}
+use Rattle.std.specs.Prelude.{Option, Some, None}
 use Rattle.rows.specs.declared.Cursor.{Cursor}
+use Rattle.rows.specs.declared.lent.Lent.{Lent}
+use Rattle.rows.specs.Lent.{fault_in, named_loan}
 use Rattle.rows.specs.Memory.{Memory, fresh, zeroed, fault_of, no_span}
 use Rattle.format.specs.declared.Answer.{Answer}
 use Rattle.format.specs.declared.Answer.TheVariants as answer
@@ -18,9 +21,8 @@ use Rattle.format.specs.Step.{wait, over, none}
 use Rattle.format.specs.Numbers.{Numbers, Held, held, state_of, after_step, numbers_of, mode_of, frames_of, work_of, work, no_trait, laid, lent_of, finishable}
 use Rattle.format.specs.Answers.{fed, answer_of, answered, blank, begin_call, run_held, taken_by, feed_call, end_of, end_call}
 use Rattle.format.proofs.Tests.{on_bool, clash}
-use Rattle.decide.specs.declared.Refusal.{Refusal}
-use Rattle.resume.specs.declared.Next.TheVariants.{Wait, Refused}
-use Rattle.resume.specs.Steps.{refusal_of}
+use Rattle.format.specs.declared.Refusal.{Refusal}
+use Rattle.resume.specs.Steps.{Wait, Refused, refusal_of}
 use Rattle.pieces.specs.States.{numbers, head_of}
 use Rattle.states.specs.Ends.{has_ended}
 use Rattle.feed.specs.Calls.{end_refusal}
@@ -98,22 +100,29 @@ module _ (h : Head) (F : List ℕ) (m : Memory) where
 
 -- ---- the beginning
 
-module _ (m : Memory) (loan : ℕ) (f : loan ≡ fault_of m) (h : Head) where
+module _ (m : Memory) (l : Lent) (f : l ≡ lent_of m) (h : Head) where
   -- a wrong loan leaves all of them as they are
-  pub begin-refuses : (loan ≡ 0 → ⊥) → h ≡ head_of (lent_of m) (Refused (refusal_of refusals.bad_loan loan 0)) → answered (held (numbers h (replicate frames_size 0)) m) 0 ≡ begin_call m
-  unfolding begin_call step.begin after_step numbers_of
-  begin-refuses n p = rw p (by (fault_of m) loan f n)
+  pub begin-refuses : (loan : ℕ) → fault_in l ≡ Some loan → h ≡ head_of l (Refused (refusal_of refusals.bad_loan loan 0))
+      → answered (held (numbers h (replicate frames_size 0)) m) 0 ≡ begin_call m
+  unfolding begin_call step.begin after_step numbers_of lent_of
+  begin-refuses loan n p = rw (p, f) (by (fault_of m) (rw f at n))
     where
-      by : (k loan : ℕ) → loan ≡ k → (loan ≡ 0 → ⊥)
+      by : (k : ℕ) → named_loan k ≡ Some loan
           → answered (held (numbers (head_of (lent_of m) (Refused (refusal_of refusals.bad_loan loan 0))) (replicate frames_size 0)) m) 0
           ≡ answered (after_step (blank (lent_of m)) (step.begin_at k m)) 0
-      by zero loan f n = absurd (n f)
-      by (suc k) loan f n = rw f refl
+      by zero n = let z : ◌≡◌ {A = Option ℕ} None (Some loan) = n in clash cc
+      by (suc k) n = let z : ◌≡◌ {A = Option ℕ} (Some (suc k)) (Some loan) = rw (ne_eqb (suc k) 0 (λ (q : suc k ≡ 0). cc)) at n in let e : suc k ≡ loan = cc in rw (← e) refl
 
-  pub begin-waits : (w : Work) (c : Cursor) (m' : Memory) → loan ≡ 0 → w ≡ work 1 0 0 0 0 no_span no_trait 0 0 → c ≡ fresh → h ≡ head_of (lent_of m) (Wait w c 0) → m' ≡ zeroed m
+  pub begin-waits : (w : Work) (c : Cursor) (m' : Memory) → fault_in l ≡ None → w ≡ work 1 0 0 0 0 no_span no_trait 0 0 → c ≡ fresh → h ≡ head_of l (Wait w c 0) → m' ≡ zeroed m
       → answered (held (numbers h (replicate frames_size 0)) m') 0 ≡ begin_call m
-  unfolding begin_call step.begin after_step numbers_of work_of laid
-  begin-waits w c m' z p q r s = rw (s, r, q, p, sym f ∙ z)
+  unfolding begin_call step.begin after_step numbers_of work_of laid lent_of
+  begin-waits w c m' n p q r s = rw (s, r, q, p, f) (by (fault_of m) (rw f at n))
+    where
+      by : (k : ℕ) → named_loan k ≡ None
+          → answered (held (numbers (head_of (lent_of m) (Wait (work 1 0 0 0 0 no_span no_trait 0 0) fresh 0)) (replicate frames_size 0)) (zeroed m)) 0
+          ≡ answered (after_step (blank (lent_of m)) (step.begin_at k m)) 0
+      by zero n = refl
+      by (suc k) n = let z : ◌≡◌ {A = Option ℕ} (Some (suc k)) None = rw (ne_eqb (suc k) 0 (λ (q : suc k ≡ 0). cc)) at n in clash cc
 
 -- ---- a piece
 

@@ -2,7 +2,7 @@
 use Rattle.std.specs.Prelude.{cond, eqb}
 use Rattle.format.specs.declared.Head.{Head}
 use Rattle.format.specs.Numbers.{Numbers}
-use Rattle.decide.specs.declared.Refusal.{Refusal}
+use Rattle.format.specs.declared.Refusal.{Refusal}
 use Rattle.resume.specs.Steps.{refusal_of}
 use Rattle.feed.specs.declared.State as state
 use Rattle.format.specs.Codes.{status_waiting}

@@ -2,18 +2,18 @@
 
 #![tactic(auto)]
 
-ghost use Rattle.rows.specs.Memory.{at_entry, at_exit, Memory};
-ghost use Rattle.std.specs.Prelude.{◌≡◌, List, ℕ, ◌-◌};
+ghost use Rattle.std.specs.Prelude.{◌≡◌, List, ℕ};
+ghost use Rattle.rows.specs.Memory.{Memory};
+ghost use Rattle.rows.specs.Lent.{memory_of, SameLoans};
 ghost use Rattle.format.specs.Numbers.{state_of, held};
 ghost use Rattle.format.specs.Answers as answers;
 ghost use Rattle.format.specs.Answers.{fed, answer_of, begin_call, feed_call, end_call};
-ghost use Rattle.resume.specs.Steps.{after};
-ghost use Rattle.pieces.specs.States.{numbers, ran};
+ghost use Rattle.pieces.specs.States.{numbers};
 ghost use Rattle.feed.specs.Calls.{end_refusal, state_numbers};
 
-use decide::Refusal;
-use format::{Answer, FRAMES_SIZE, Frames, Head, Lent, modes, refusals, statuses};
+use format::{Answer, FRAMES_SIZE, Frames, Head, Refusal, Work, modes, refusals, statuses};
 use resume::Next;
+use rows::{Cursor, Loans};
 
 // ---- the calls, on a state by value
 
@@ -73,43 +73,28 @@ fn answered(head: Head, frames: Frames, taken: usize) -> Fed
 }
 
 // The beginning of a reading: a marker is next, and nothing is used. A loan that 1 refuses leaves all of them as they are.
-pub fn begun(
-    rows: &mut [usize],
-    store: &mut [u8],
-    strings: &mut [usize],
-    objects: &mut [usize],
-    traits: &mut [usize],
-    names: &mut [usize],
-) -> Fed
-    ensures { fed result.answer (state_numbers result.state) (at_exit rows store strings objects traits names)
-        ≡ begin_call (at_entry rows store strings objects traits names) }
+pub fn begun(loans: &mut Loans) -> Fed
+    ensures call { fed result.answer (state_numbers result.state) (memory_of loans.new) ≡ begin_call (memory_of loans.old) }
+    ensures same { SameLoans loans.old loans.new }
 {
-    let l = Lent {
-        rows: rows.len(),
-        store: store.len(),
-        strings: strings.len(),
-        objects: objects.len(),
-        traits: traits.len(),
-        names: names.len(),
-    };
+    let lent = loans.lent();
     let frames = [0; FRAMES_SIZE];
-    let loan = rows::loan_fault(l.rows, l.store, l.strings, l.objects, l.traits, l.names);
-    if loan != 0 {
+    if let Some(loan) = lent.fault() {
         let wrong = Refusal {
             number: refusals::BAD_LOAN,
             told: loan,
             place: 0,
         };
-        return answered(pieces::head_after(l, Next::Refused(wrong)), frames, 0);
+        let refused = pieces::head_after(lent, Err(wrong), Cursor::default(), 0);
+        return answered(refused, frames, 0);
     }
-    rows::clear(rows, store, strings, objects, traits, names);
-    let mut marker = format::idle();
-    marker.mode = modes::MARKER;
-    answered(
-        pieces::head_after(l, Next::Wait(marker, rows::fresh(), 0)),
-        frames,
-        0,
-    )
+    loans.clear();
+    let marker = Work {
+        mode: modes::MARKER,
+        ..Work::default()
+    };
+    let waiting = pieces::head_after(lent, Ok(Next::Wait(marker)), Cursor::default(), 0);
+    answered(waiting, frames, 0)
 }
 
 // The head after a piece, and the answer.
@@ -120,23 +105,11 @@ pub struct Headed {
 }
 
 // A piece on a head and its frames.
-pub fn fed_in(
-    h: Head,
-    frames: &mut Frames,
-    rows: &mut [usize],
-    store: &mut [u8],
-    strings: &mut [usize],
-    objects: &mut [usize],
-    traits: &mut [usize],
-    names: &mut [usize],
-    piece: &[u8],
-) -> Headed
-    ensures { fed result.answer (numbers result.head frames.new) (at_exit rows store strings objects traits names)
-        ≡ feed_call (numbers h frames.old) (at_entry rows store strings objects traits names) piece.now }
+pub fn fed_in(h: Head, frames: &mut Frames, loans: &mut Loans, piece: &[u8]) -> Headed
+    ensures call { fed result.answer (numbers result.head frames.new) (memory_of loans.new) ≡ feed_call (numbers h frames.old) (memory_of loans.old) piece.now }
+    ensures same { SameLoans loans.old loans.new }
 {
-    let ran = pieces::run(
-        h, frames, rows, store, strings, objects, traits, names, piece,
-    );
+    let ran = pieces::run(h, frames, loans, piece);
     let head = ran.head;
     Headed {
         head,
@@ -145,34 +118,12 @@ pub fn fed_in(
 }
 
 // The same on a state by value.
-pub fn fed_on(
-    s: State,
-    rows: &mut [usize],
-    store: &mut [u8],
-    strings: &mut [usize],
-    objects: &mut [usize],
-    traits: &mut [usize],
-    names: &mut [usize],
-    piece: &[u8],
-) -> Fed
-    ensures { fed result.answer (state_numbers result.state) (at_exit rows store strings objects traits names)
-        ≡ feed_call (state_numbers s) (at_entry rows store strings objects traits names) piece.now }
+pub fn fed_on(s: State, loans: &mut Loans, piece: &[u8]) -> Fed
+    ensures call { fed result.answer (state_numbers result.state) (memory_of loans.new) ≡ feed_call (state_numbers s) (memory_of loans.old) piece.now }
+    ensures same { SameLoans loans.old loans.new }
 {
-    let h = s.head;
     let mut frames = s.frames;
-    let out = fed_in(
-        h,
-        &mut frames,
-        rows,
-        store,
-        strings,
-        objects,
-        traits,
-        names,
-        piece,
-    );
-    let head = out.head;
-    let answer = out.answer;
+    let Headed { head, answer } = fed_in(s.head, &mut frames, loans, piece);
     Fed {
         state: State { head, frames },
         answer,
@@ -180,6 +131,7 @@ pub fn fed_on(
 }
 
 // Why a state that has not ended is refused at the end: 2 where it waits, 12 where it was never begun.
+#[tactic(auto, unfolding(crate::specs::Calls::end_refusal))]
 fn end_refusal(h: Head) -> Refusal
     ensures { result ≡ end_refusal h }
 {
@@ -190,24 +142,16 @@ fn end_refusal(h: Head) -> Refusal
 }
 
 // The end is declared: what waits is refused with 2.
-pub fn ended(
-    s: State,
-    rows: &mut [usize],
-    store: &mut [u8],
-    strings: &mut [usize],
-    objects: &mut [usize],
-    traits: &mut [usize],
-    names: &mut [usize],
-) -> Fed
-    ensures { fed result.answer (state_numbers result.state) (at_exit rows store strings objects traits names)
-        ≡ end_call (state_numbers s) (at_entry rows store strings objects traits names) }
+pub fn ended(s: State, loans: &mut Loans) -> Fed
+    ensures call { fed result.answer (state_numbers result.state) (memory_of loans.new) ≡ end_call (state_numbers s) (memory_of loans.old) }
+    ensures same { SameLoans loans.old loans.new }
 {
     let h = s.head;
     let frames = s.frames;
     if states::has_ended(h) {
         return answered(h, frames, 0);
     }
-    rows::clear(rows, store, strings, objects, traits, names);
-    let refused = Next::Refused(end_refusal(h));
-    answered(pieces::head_after(h.lent, refused), frames, 0)
+    loans.clear();
+    let refused = pieces::head_after(h.lent, Err(end_refusal(h)), h.cursor, 0);
+    answered(refused, frames, 0)
 }

@@ -1,5 +1,6 @@
 -- Along a run from the beginning the loans keep their lengths, no more of them is used than there is, the place counts the bytes taken, no more values are
 -- open than may be, what a mode holds lies in what is used, and a refusal is one that a reading can say.
+use Rattle.std.proofs.Common.{Option, Some, None}
 use mathlib.Core.Path.{◌≡◌, refl, ap, ◌∙◌}
 use mathlib.Core.Bool.{Bool, true, false, cond}
 use mathlib.Core.List.{List, [], ◌∷◌}
@@ -20,7 +21,7 @@ use Rattle.rows.specs.Memory.{Memory, fresh, zeroed, fault_of, message_most, mes
 use Rattle.rows.specs.Memory.{faulty, loan_fault, loan_rows, loan_store, loan_strings, loan_objects, loan_traits, loan_names, row_width, span_width, trait_width}
 use Rattle.rows.specs.Memory.{rows_most, store_most, strings_most, objects_most, traits_most, names_most}
 use Rattle.wire.specs.declared.Part.{Part}
-use Rattle.wire.specs.declared.Part.TheVariants.{More, Whole, Astray}
+use Rattle.wire.specs.declared.Part.TheVariants.{More, Whole}
 use Rattle.wire.specs.declared.Size.{Size}
 use Rattle.wire.specs.declared.Size.TheVariants.{Old, New}
 use Rattle.wire.specs.declared.Shape.{Shape}
@@ -45,7 +46,7 @@ use Rattle.format.specs.Step.{go, entry, pop, onward, keyed, naming, had, text_d
 use Rattle.format.specs.Step.{raw_row, filling, opened, body_sized, object_shaped, worded, number_done, flag_done, raw_grown, begun, shown, on_part, act, step, run}
 use Rattle.format.specs.Step.{begin_at, begin}
 use Rattle.format.specs.Reading.{finished, refused, taken}
-use Rattle.format.specs.declared.Lent.{Lent}
+use Rattle.rows.specs.declared.lent.Lent.{Lent}
 use Rattle.format.specs.Numbers.{lent_of, memory_of}
 use Rattle.format.specs.Answers.{cost, cost_from}
 use Rattle.format.proofs.Tests.{on_bool, clash}
@@ -133,17 +134,17 @@ good_able s (declines t h z) = rejects (λ b. t) h z
 
 module _ (left n b k : ℕ) where
   -- what says more leaves a part that bytes can give
-  part_in : left ≤ word_more → b < 2 ^ 8 → part_of left n b ≡ More k → PartIn word_more word_bits (left - 1) k
+  part_in : left ≤ word_more → b < 2 ^ 8 → part_of left n b ≡ Some (More k) → PartIn word_more word_bits (left - 1) k
   part_in h hb e = (omega arith, (u29.part-within left n b k hb e).1)
 
-  digit_in : left ≤ number_more → b < 2 ^ 8 → digit_of left n b ≡ More k → PartIn number_more number_bits (left - 1) k
+  digit_in : left ≤ number_more → b < 2 ^ 8 → digit_of left n b ≡ Some (More k) → PartIn number_more number_bits (left - 1) k
   digit_in h hb e = (omega arith, (digit-within left n b k hb e).1)
 
   -- a whole word has 29 bits, a whole number 64
-  part-whole : b < 2 ^ 8 → part_of left n b ≡ Whole k → k < 2 ^ 29
+  part-whole : b < 2 ^ 8 → part_of left n b ≡ Some (Whole k) → k < 2 ^ 29
   part-whole hb = of (u29.step left n b)
     where
-      of : {x : Part} → u29.Step left n b x → x ≡ Whole k → k < 2 ^ 29
+      of : {x : Option Part} → u29.Step left n b x → x ≡ Some (Whole k) → k < 2 ^ 29
       of (u29.astray a) e = clash cc
       of (u29.fourth z f) e = let v : n * 2 ^ 8 + b ≡ k = cc in omega arith
       of (u29.last l h f g) e =
@@ -151,11 +152,11 @@ module _ (left n b k : ℕ) where
           omega (arith, before_small 7 3 (left - 1) (one_more 7 3 left n b l h f g))
       of (u29.more l h f g) e = clash cc
 
-  digit-whole : b < 2 ^ 8 → digit_of left n b ≡ Whole k → k < 2 ^ 64
+  digit-whole : b < 2 ^ 8 → digit_of left n b ≡ Some (Whole k) → k < 2 ^ 64
   unfolding digit_of
   digit-whole hb e =
       elim (guard 8 7 left n) [
-        | cannot a f ↦ (let d : digit_of left n b ≡ Astray = f _ in clash cc)
+        | cannot a f ↦ (let d : digit_of left n b ≡ None = f _ in clash cc)
         | can h f ↦ elim (dec_lt 0 left) [
           | no l ↦
               (let d = digit-last left n b h f (omega arith) in let v : n * 2 ^ 8 + b ≡ k = cc in omega (arith, before_small 8 7 left f))
@@ -378,11 +379,11 @@ module _ {B : Type 0} {lent : Lent} {at : ℕ} (ts : List Frame) (fits : length 
   good-begun row object c m h has = search good
   good-begun row (sized body) c m h has = search good
 
-  good-part : (p : Part) (more whole : ℕ → State) (c : Cursor) (m : Memory) → Holds lent (suc at) c m
-      → ((n : ℕ) → p ≡ More n → Able B lent (suc at) (more n)) → ((n : ℕ) → p ≡ Whole n → Able B lent (suc at) (whole n)) → Able B lent (suc at) (on_part p m more whole)
-  good-part (More n) more whole c m h f g = f n refl
-  good-part (Whole n) more whole c m h f g = g n refl
-  good-part Astray more whole c m h f g = good-broken h
+  good-part : (p : Option Part) (more whole : ℕ → State) (c : Cursor) (m : Memory) → Holds lent (suc at) c m
+      → ((n : ℕ) → p ≡ Some (More n) → Able B lent (suc at) (more n)) → ((n : ℕ) → p ≡ Some (Whole n) → Able B lent (suc at) (whole n)) → Able B lent (suc at) (on_part p m more whole)
+  good-part (Some (More n)) more whole c m h f g = f n refl
+  good-part (Some (Whole n)) more whole c m h f g = g n refl
+  good-part None more whole c m h f g = good-broken h
 
 keeps-raw : {B : Type 0} {lent : Lent} {at : ℕ} (r : Raw) (s : Span) (n : ℕ) (c : Cursor) (m : Memory) → Holds lent (suc at) c m → Keeps B (Lends lent) Any lent c (raw_grown r s n m c)
 unfolding raw_grown

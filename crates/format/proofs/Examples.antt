@@ -7,7 +7,7 @@ use lib.ListN.{length, replicate, take}
 use Rattle.rows.specs.declared.Cursor.{Cursor}
 use Rattle.format.specs.declared.Answer.{Answer}
 use Rattle.format.specs.declared.Answer.TheVariants.{Waiting, Finished, Refused}
-use Rattle.format.specs.declared.Written.TheVariants.{Bytes, Unwritten}
+use Rattle.std.specs.Prelude.{Ok, Err}
 use Rattle.wire.specs.U29 as u
 use Rattle.wire.specs.Word as w
 use Rattle.wire.specs.Sign as z
@@ -204,7 +204,7 @@ abbrev writes : Sent → a.Output
 writes (sent R B bytes) = a.write_call (joined R) B (replicate (length bytes) 7)
 
 abbrev due : Sent → a.Output
-due (sent R B bytes) = a.output (Bytes (length bytes)) bytes
+due (sent R B bytes) = a.output (Ok (length bytes)) bytes
 
 -- ---- the others: what waits, two deep messages, the array of two "a" written, also where the output is too short, a message fed byte by byte that
 -- lacks a row, fewer rows lent than at the beginning, and the orders: each written, all of them read in turn, and four of them fed in turn byte by byte
@@ -246,9 +246,9 @@ pub others :
     × (deeply (again 63 (0x09 ∷ 0x03 ∷ 0x01 ∷ []) (0x09 ∷ 0x01 ∷ 0x01 ∷ [])) ≡ Finished 64 0 192)
     × (deeply (again 64 (0x09 ∷ 0x03 ∷ 0x01 ∷ []) (0x01 ∷ [])) ≡ Refused 9 0 193 0)
     × (a.write_call (joined (row 9 keyless 0 0 0 0 2 3 ∷ row 6 keyless 0 1 0 0 0 2 ∷ row 6 keyless 0 1 0 0 0 3 ∷ [])) (0x61 ∷ []) (replicate 12 7)
-    ≡ a.output (Bytes 9) (0x09 ∷ 0x05 ∷ 0x01 ∷ 0x06 ∷ 0x03 ∷ 0x61 ∷ 0x06 ∷ 0x03 ∷ 0x61 ∷ 7 ∷ 7 ∷ 7 ∷ []))
+    ≡ a.output (Ok 9) (0x09 ∷ 0x05 ∷ 0x01 ∷ 0x06 ∷ 0x03 ∷ 0x61 ∷ 0x06 ∷ 0x03 ∷ 0x61 ∷ 7 ∷ 7 ∷ 7 ∷ []))
     × (a.write_call (joined (row 9 keyless 0 0 0 0 2 3 ∷ row 6 keyless 0 1 0 0 0 2 ∷ row 6 keyless 0 1 0 0 0 3 ∷ [])) (0x61 ∷ []) (replicate 8 7)
-    ≡ a.output (Unwritten 10 7 8) (replicate 8 7))
+    ≡ a.output (Err (a.refusal_of 10 7 8)) (replicate 8 7))
     × (dribble (0x09 ∷ 0x0D ∷ 0x01 ∷ replicate 6 0x01) (a.begin_call lent) 0 ≡ dribbled (Refused 10 1 9 0) (loans (refuses 10 1 9)) 9)
     × (relent (a.begin_call lent) (m.memory (replicate 60 0) (replicate 16 0) (replicate 4 0) (replicate 4 0) (replicate 10 0) (replicate 2 0)) (0x01 ∷ []) ≡ Refused 12 0 0 0)
     × (map writes orders ≡ map due orders)

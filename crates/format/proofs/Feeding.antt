@@ -1,5 +1,6 @@
 -- Feeding is reading: the bytes one by one, and then the end, give what the whole reading gives. While it waits the loans hold what the bytes give.
 -- `sem s` is what a state still has to read. One byte of it is one step, and where there is no byte it stops, and leaves the loans as they are.
+use Rattle.std.proofs.Common.{Option, Some, None}
 use mathlib.Core.Path.{◌≡◌, refl, sym, ap, ◌∙◌}
 use mathlib.Core.Bool.{Bool, true, false, cond, not}
 use mathlib.Core.List.{List, [], ◌∷◌}
@@ -13,7 +14,7 @@ use Rattle.rows.specs.declared.Key.{Key}
 use Rattle.rows.specs.declared.Trait.{Trait}
 use Rattle.rows.specs.Memory.{Memory, fresh, zeroed, fault_of, message_limit, open_limit, col_count, col_count2, no_span, no_key}
 use Rattle.wire.specs.declared.Part.{Part}
-use Rattle.wire.specs.declared.Part.TheVariants.{More, Whole, Astray}
+use Rattle.wire.specs.declared.Part.TheVariants.{More, Whole}
 use Rattle.wire.specs.declared.Size.{Size}
 use Rattle.wire.specs.declared.Size.TheVariants.{Old, New}
 use Rattle.wire.specs.declared.Shape.{Shape}
@@ -556,22 +557,22 @@ module _ (ts : List Frame) where
 -- ---- a byte
 
 -- after a byte of a number
-abbrev parted : Part → Memory → (ℕ → Result Unit) → (ℕ → Result Unit) → Result Unit
-parted (More n) m more whole = more n
-parted (Whole n) m more whole = whole n
-parted Astray m more whole = bad refusals.lost 0 0 (zeroed m)
+abbrev parted : Option Part → Memory → (ℕ → Result Unit) → (ℕ → Result Unit) → Result Unit
+parted (Some (More n)) m more whole = more n
+parted (Some (Whole n)) m more whole = whole n
+parted None m more whole = bad refusals.lost 0 0 (zeroed m)
 
-sem-part : (p : Part) (m : Memory) (more whole : ℕ → State) (bs : List ℕ)
+sem-part : (p : Option Part) (m : Memory) (more whole : ℕ → State) (bs : List ℕ)
     → sem (on_part p m more whole) bs ≡ parted p m (λ n. sem (more n) bs) (λ n. sem (whole n) bs)
-sem-part (More n) m more whole bs = refl
-sem-part (Whole n) m more whole bs = refl
-sem-part Astray m more whole bs = sem-over _ bs
+sem-part (Some (More n)) m more whole bs = refl
+sem-part (Some (Whole n)) m more whole bs = refl
+sem-part None m more whole bs = sem-over _ bs
 
-part-read : (p : Part) (rd : ℕ → Reader ℕ) (m : Memory) (c : Cursor) (bs : List ℕ) (k : Cont ℕ)
+part-read : (p : Option Part) (rd : ℕ → Reader ℕ) (m : Memory) (c : Cursor) (bs : List ℕ) (k : Cont ℕ)
     → and_then (part_read rd p m c bs) k ≡ parted p m (λ n. and_then (rd n m c bs) k) (λ n. k n m c bs)
-part-read (More n) rd m c bs k = refl
-part-read (Whole n) rd m c bs k = refl
-part-read Astray rd m c bs k = refl
+part-read (Some (More n)) rd m c bs k = refl
+part-read (Some (Whole n)) rd m c bs k = refl
+part-read None rd m c bs k = refl
 
 -- its last byte
 part-last : (n b : ℕ) (m : Memory) (more whole : ℕ → Result Unit)

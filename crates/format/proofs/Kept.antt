@@ -17,7 +17,7 @@ use Rattle.rows.specs.declared.Trait.{Trait}
 use Rattle.rows.specs.Memory.{Memory, row_width, span_width, trait_width, loan_fault, fault_of, message_most, message_limit, objects_most}
 use Rattle.rows.specs.Memory.{rows_most, store_most}
 use Rattle.wire.specs.Date.{refused_date}
-use Rattle.format.specs.declared.Lent.{Lent}
+use Rattle.rows.specs.declared.lent.Lent.{Lent}
 use Rattle.format.specs.Decide.{Out, stop, give, refuse, lift, looking, on_rows, on_store, on_strings, on_objects, on_traits, on_names, Width}
 use Rattle.format.specs.Decide.{rows_to, store_to, strings_to, objects_to, traits_to, names_to}
 use Rattle.format.specs.Decide.{marker, closed, numbered, integer_end, date_end, bodied, classed, object_class, vector_class, flagged, counted, key_end}

@@ -11,7 +11,7 @@ use lib.ListN.{length}
 use Rattle.rows.specs.Memory.{Memory, zeroed}
 use Rattle.wire.proofs.Octets.{Bytes}
 use Rattle.format.specs.declared.Answer.TheVariants.{Finished, Refused}
-use Rattle.format.specs.declared.Lent.{Lent}
+use Rattle.rows.specs.declared.lent.Lent.{Lent}
 use Rattle.format.specs.Reading.{Ended, finished, refused}
 use Rattle.format.specs.Step.{State, wait, over, none, run, end, begin}
 use Rattle.format.specs.Numbers.{Numbers, Held, held, finishable, lent_of, state_of, numbers_of, memory_of, after_step, byte_step}

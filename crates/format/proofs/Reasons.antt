@@ -1,5 +1,6 @@
 -- A byte's refusal has its reason. Any number but 12 has the place of the byte itself, and tells what document 01 says; the loans are zeroed. 9 comes of a marker where
 -- as many values are open as can be; 10 of a byte that asks for an entry, or for bytes, of a loan that has no more of them.
+use Rattle.std.proofs.Common.{Option, Some, None}
 use mathlib.Core.Path.{◌≡◌, refl, ap, ◌∙◌}
 use mathlib.Core.Bool.{Bool, true, false, cond, not}
 use mathlib.Core.List.{List, [], ◌∷◌}
@@ -15,7 +16,7 @@ use Rattle.rows.specs.declared.Trait.{Trait}
 use Rattle.rows.specs.Memory.{Memory, memory, zeroed, open_limit, no_span, row_width, span_width, trait_width, row_used, span_used, span_at}
 use Rattle.rows.specs.Memory.{loan_rows, loan_store, loan_strings, loan_objects, loan_traits, loan_names}
 use Rattle.wire.specs.declared.Part.{Part}
-use Rattle.wire.specs.declared.Part.TheVariants.{More, Whole, Astray}
+use Rattle.wire.specs.declared.Part.TheVariants.{More, Whole}
 use Rattle.wire.specs.declared.Size.{Size}
 use Rattle.wire.specs.declared.Size.TheVariants.{Old, New}
 use Rattle.wire.specs.declared.Shape.{Shape}
@@ -414,11 +415,11 @@ module _ {D : Type 0} {E : ℕ → Type 0} {b p : ℕ} where
     placed-begun row object c m e = search placing
     placed-begun row (sized body) c m e = search placing
 
-    placed-part : (x : Part) (more whole : ℕ → State) (m : Memory)
-        → ((n : ℕ) → Placed D E b p (more n)) → ((n : ℕ) → x ≡ Whole n → Placed D E b p (whole n)) → Placed D E b p (on_part x m more whole)
-    placed-part (More n) more whole m f g = f n
-    placed-part (Whole n) more whole m f g = g n refl
-    placed-part Astray more whole m f g = placed-broken m
+    placed-part : (x : Option Part) (more whole : ℕ → State) (m : Memory)
+        → ((n : ℕ) → Placed D E b p (more n)) → ((n : ℕ) → x ≡ Some (Whole n) → Placed D E b p (whole n)) → Placed D E b p (on_part x m more whole)
+    placed-part (Some (More n)) more whole m f g = f n
+    placed-part (Some (Whole n)) more whole m f g = g n refl
+    placed-part None more whole m f g = placed-broken m
 
   pub says-raw : (r : Raw) (s : Span) (n : ℕ) (c : Cursor) (m : Memory) → c.at ≡ p → Says D E b p (raw_grown r s n m c)
   unfolding raw_grown
@@ -429,7 +430,7 @@ module _ {D : Type 0} {E : ℕ → Type 0} {b p : ℕ} where
 
 module _ {b p : ℕ} (ts : List Frame) (c : Cursor) (m : Memory) (e : c.at ≡ p) where
   -- a word is whole
-  placed-word : (w : Word) (left part n : ℕ) → part_of left part b ≡ Whole n
+  placed-word : (w : Word) (left part n : ℕ) → part_of left part b ≡ Some (Whole n)
       → Placed (Deep (at_word w left part) b ts) (Lacks c m b (at_word w left part)) b p (worded ts w n c m)
   unfolding worded
   placed-word (integer_word row) left part n q = search (placing, says-integer, placed-pop)

@@ -1,4 +1,5 @@
 -- A reading never gives back bytes, and a text takes at least one: so pairs are read one after the other, whatever the fuel that bounds them.
+use Rattle.std.proofs.Common.{Option, Some, None}
 use mathlib.Core.Path.{◌≡◌, refl}
 use mathlib.Core.List.{List, [], ◌∷◌}
 use Prim.Native.Nat.{ℕ, zero, suc, ◌<◌, ◌≤◌}
@@ -11,7 +12,7 @@ use Rattle.rows.specs.declared.Key.{Key}
 use Rattle.rows.specs.declared.Trait.{Trait}
 use Rattle.rows.specs.Memory.{Memory, message_limit, col_count2, key_of}
 use Rattle.wire.specs.declared.Part.{Part}
-use Rattle.wire.specs.declared.Part.TheVariants.{More, Whole, Astray}
+use Rattle.wire.specs.declared.Part.TheVariants.{More, Whole}
 use Rattle.wire.specs.declared.Size.{Size}
 use Rattle.wire.specs.declared.Size.TheVariants.{Old, New}
 use Rattle.wire.specs.declared.Shape.{Shape}
@@ -62,10 +63,10 @@ module _ {n : ℕ} where
   byte-within m c bs l = byte-below m c bs (omega arith)
 
   -- after a byte of a number
-  part-within : {more : ℕ → Reader ℕ} → ((i : ℕ) → Within n (more i)) → (p : Part) → Within n (on_part more p)
-  part-within h (More i) m c bs l = h i m c bs l
-  part-within h (Whole i) m c bs l = leaves l
-  part-within h Astray m c bs l = stops
+  part-within : {more : ℕ → Reader ℕ} → ((i : ℕ) → Within n (more i)) → (p : Option Part) → Within n (on_part more p)
+  part-within h (Some (More i)) m c bs l = h i m c bs l
+  part-within h (Some (Whole i)) m c bs l = leaves l
+  part-within h None m c bs l = stops
 
   u29-within : (left i : ℕ) → Within n (u29 left i)
   unfolding u29

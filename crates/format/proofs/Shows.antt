@@ -12,7 +12,7 @@ use Rattle.rows.specs.declared.Cursor.{Cursor}
 use Rattle.rows.specs.declared.Key.{Key}
 use Rattle.rows.specs.Memory.{Memory, fault_of, message_limit, open_limit, span, span_used}
 use Rattle.wire.proofs.Octets.{Bytes}
-use Rattle.format.specs.declared.Lent.{Lent}
+use Rattle.rows.specs.declared.lent.Lent.{Lent}
 use Rattle.format.specs.declared.Frame.{Frame}
 use Rattle.format.specs.Step.{assoc, dynamics, Use, for_string, for_key, for_class, for_external, for_name, for_vector, xml_text, table_text}
 use Rattle.format.specs.Step.{Word, integer_word, object_word, size_word, text_word, Number, double_bits, date_bits, raw_flag, objects_flag, dictionary_flag}

@@ -1,5 +1,6 @@
 -- Along a run from the beginning every open value's row, with one for each of its finished entries, lies below the rows of what is open in it: so that pairs
 -- done are below the used rows.
+use Rattle.std.proofs.Common.{Option, Some, None}
 use mathlib.Core.Bool.{Bool, true, false, cond}
 use mathlib.Core.List.{List, [], ◌∷◌}
 use Prim.Native.Nat.{ℕ, zero, suc, ◌+◌, ◌-◌, ◌≤◌, ◌<◌}
@@ -12,7 +13,7 @@ use Rattle.rows.specs.declared.Span.{Span}
 use Rattle.rows.specs.declared.Trait.{Trait}
 use Rattle.rows.specs.Memory.{Memory, fault_of, message_limit, open_limit, no_span}
 use Rattle.wire.specs.declared.Part.{Part}
-use Rattle.wire.specs.declared.Part.TheVariants.{More, Whole, Astray}
+use Rattle.wire.specs.declared.Part.TheVariants.{More, Whole}
 use Rattle.wire.specs.declared.Size.{Size}
 use Rattle.wire.specs.declared.Size.TheVariants.{Old, New}
 use Rattle.wire.specs.declared.Shape.{Shape}
@@ -32,7 +33,7 @@ use Rattle.format.specs.Step.{raw_vector, raw_row, Mode, at_marker, at_word, at_
 use Rattle.format.specs.Step.{go, entry, pop, onward, keyed, naming, had, text_done, reserved_for, string_sized, roomy, texting, filling, opened}
 use Rattle.format.specs.Step.{body_sized, object_shaped, worded, number_done, flag_done, raw_grown, begun, shown, on_part, act, step, run, begin_at, begin}
 use Rattle.format.specs.Reading.{Ended, taken}
-use Rattle.format.specs.declared.Lent.{Lent}
+use Rattle.rows.specs.declared.lent.Lent.{Lent}
 use Rattle.format.specs.Numbers.{number_row}
 use Rattle.format.specs.Codes.{task_pairs, task_dynamics, task_dense, task_vector, task_members, task_keys, task_values}
 use Rattle.format.proofs.Tests.{on_bool}
@@ -491,10 +492,10 @@ module _ (ts : List Frame) where
   stacked-marked to m kind o (refuses t) h = ends
   stacked-marked to m kind o (gives p v (e, l)) h = stacked-begun _ kind _ _ (record { above = rw e h; below = l })
 
-  stacked-part : (p : Part) (m : Memory) (more whole : ℕ → State) → ((n : ℕ) → Stacked (more n)) → ((n : ℕ) → Stacked (whole n)) → Stacked (on_part p m more whole)
-  stacked-part (More n) m more whole f g = f n
-  stacked-part (Whole n) m more whole f g = g n
-  stacked-part Astray m more whole f g = ends
+  stacked-part : (p : Option Part) (m : Memory) (more whole : ℕ → State) → ((n : ℕ) → Stacked (more n)) → ((n : ℕ) → Stacked (whole n)) → Stacked (on_part p m more whole)
+  stacked-part (Some (More n)) m more whole f g = f n
+  stacked-part (Some (Whole n)) m more whole f g = g n
+  stacked-part None m more whole f g = ends
 
 stacked-raw : (r : Raw) (s : Span) (n : ℕ) (c : Cursor) (m : Memory) (g : Unit {0} → Cursor → Memory → State)
     → ((a : Unit {0}) (d : Cursor) (m : Memory) → c.rows ≤ d.rows → Stacked (g a d m)) → Stacked (on (raw_grown r s n m c) m g)

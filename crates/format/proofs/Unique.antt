@@ -4,7 +4,8 @@ use mathlib.Core.List.{List}
 use Prim.Native.Nat.{ℕ}
 use Rattle.rows.specs.Memory.{Memory}
 use Rattle.format.specs.declared.Answer.{Answer}
-use Rattle.format.specs.declared.Written.{Written}
+use Rattle.std.specs.Prelude.{Result}
+use Rattle.format.specs.declared.Refusal.{Refusal}
 use Rattle.format.specs.Numbers.{Numbers}
 use Rattle.format.specs.Answers.{Fed, fed, read, output, begin_call, feed_call, end_call, read_call, write_call, text_call}
 
@@ -26,7 +27,7 @@ module _ (a b : Answer) (s t : Numbers) (m n : Memory) where
 pub one-read : (a b : Answer) (m n lent : Memory) (message : List ℕ) → read a m ≡ read_call lent message → read b n ≡ read_call lent message → (a ≡ b) × (m ≡ n)
 one-read a b m n lent message p q = let e : read a m ≡ read b n = p ∙ sym q in (cc, cc)
 
-pub one-write : (a b : Written) (x y rows store out : List ℕ)
+pub one-write : (a b : Result ℕ Refusal) (x y rows store out : List ℕ)
     → output a x ≡ write_call rows store out → output b y ≡ write_call rows store out → (a ≡ b) × (x ≡ y)
 one-write a b x y rows store out p q = let e : output a x ≡ output b y = p ∙ sym q in (cc, cc)
 

@@ -5,7 +5,7 @@ use mathlib.Core.List.{List}
 use Prim.Native.Nat.{ℕ, suc}
 use lib.ListN.{length, replicate, length-replicate}
 use Rattle.rows.specs.Memory.{Memory, zeros, zeroed, fault_of}
-use Rattle.format.specs.declared.Lent.{Lent}
+use Rattle.rows.specs.declared.lent.Lent.{Lent}
 use Rattle.format.specs.Numbers.{lent_of}
 use Rattle.format.specs.Reading.{refused, reading}
 use Rattle.format.specs.Step.{State, run, end, begin}

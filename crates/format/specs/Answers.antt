@@ -1,13 +1,11 @@
 -- The public calls: for each, the answer and all that it leaves. The number, told value and place of a refusal stand in the answer as document 01 has them.
-use Rattle.std.specs.Prelude.{cond, ◌||◌, List, [], ◌∷◌, ℕ, ◌+◌, eqb, replicate}
-use Rattle.wire.specs.declared.Moment.{Moment}
+use Rattle.std.specs.Prelude.{Option, Result, Ok, Err, cond, ◌||◌, List, [], ◌∷◌, ℕ, ℤ, ◌+◌, eqb, replicate}
 use Rattle.rows.specs.Memory.{Memory, fresh}
 use Rattle.format.specs.Refusals as no
 use Rattle.format.specs.declared.Answer.{Answer}
 use Rattle.format.specs.declared.Answer.TheVariants.{Waiting, Finished, Refused}
-use Rattle.format.specs.declared.Written.{Written}
-use Rattle.format.specs.declared.Written.TheVariants.{Bytes, Unwritten}
-use Rattle.format.specs.declared.Lent.{Lent}
+use Rattle.format.specs.declared.Refusal.{Refusal}
+use Rattle.rows.specs.declared.lent.Lent.{Lent}
 use Rattle.format.specs.Reading.{Ended, finished, refused, reading}
 use Rattle.format.specs.Step as step
 use Rattle.format.specs.Step.{State, wait, over, none}
@@ -88,13 +86,16 @@ read_of (refused number told place m) = read (Refused number told place 0) m
 unfoldable pub read_call : Memory → List ℕ → Read
 read_call m message = read_of (reading m message)
 
--- an answer, with the output after it
+abbrev pub refusal_of : ℕ → ℕ → ℕ → Refusal
+refusal_of number told place = record { number = number; told = told; place = place }
+
+-- an answer, so many bytes or a refusal, with the output after it
 pub data Output : Type 0 where
-  output : Written → List ℕ → Output
+  output : Result ℕ Refusal → List ℕ → Output
 
 abbrev pub written_of : Wrote → Output
-written_of (written n out) = output (Bytes n) out
-written_of (unwritten number told place out) = output (Unwritten number told place) out
+written_of (written n out) = output (Ok n) out
+written_of (unwritten number told place out) = output (Err (refusal_of number told place)) out
 
 unfoldable pub write_call : List ℕ → List ℕ → List ℕ → Output
 write_call rows store out = written_of (writing rows store out)
@@ -104,5 +105,5 @@ abbrev pub text_call : List ℕ → List ℕ → ℕ → List ℕ → List ℕ
 text_call = text_or
 
 -- a row's milliseconds
-abbrev pub millis_call : List ℕ → List ℕ → ℕ → Moment
+abbrev pub millis_call : List ℕ → List ℕ → ℕ → Option ℤ
 millis_call = moment_at

@@ -1,5 +1,5 @@
 -- The words of the promises: what calls answer and leave, pieces, and what is said of a reading's end.
-use Rattle.std.specs.Prelude.{◌≡◌, List, [], ◌∷◌, ◌++◌, ◌||◌, true, false, Bool, cond, ◌≢◌, ℕ, ◌+◌, ◌≤◌, ◌*◌, ◌^◌, ◌<◌, ◌-◌, eqb, T, length, replicate, take, get_or}
+use Rattle.std.specs.Prelude.{Result, Ok, Err, ◌≡◌, List, [], ◌∷◌, ◌++◌, ◌||◌, true, false, Bool, cond, ◌≢◌, ℕ, ◌+◌, ◌≤◌, ◌*◌, ◌^◌, ◌<◌, ◌-◌, eqb, T, length, replicate, take, get_or}
 use Rattle.std.proofs.Math.Option.{none}
 use Rattle.rows.specs.Memory.{memory, Memory, zeroed, fresh, message_limit, no_key, loan_names, message_most, loan_rows, col_kind, row_width}
 use Rattle.rows.specs.Memory.{span_width, trait_width, loan_store, loan_strings, loan_objects, loan_traits, rows_most, store_most, loan_output, col, col_key_mark, col_key_begin, col_key_size, col_body_begin}
@@ -11,15 +11,14 @@ use Rattle.format.specs.Reading.{Ended, reading, finished, refused}
 use Rattle.format.specs.Step.{State, over, wait, none, Mode, at_marker}
 use Rattle.format.specs.declared.Answer.{Answer}
 use Rattle.format.specs.declared.Answer.TheVariants.{Waiting, Finished, Refused}
-use Rattle.format.specs.declared.Lent.{Lent}
+use Rattle.rows.specs.declared.lent.Lent.{Lent}
 use Rattle.format.specs.Numbers.{Numbers, state_of, head, no_work, work_of, frames_size}
 use Rattle.format.specs.Answers.{Fed, fed, begin_call, feed_call, end_call, Read, read, read_call, output, Output}
 use Rattle.format.specs.declared.Frame.{Frame}
 use Rattle.format.specs.Codes.{status_waiting, status_refused}
 use Rattle.format.specs.Unfold.{unfolded}
 use Rattle.format.specs.Standard.{Tree, encode}
-use Rattle.format.specs.declared.Written.{Written}
-use Rattle.format.specs.declared.Written.TheVariants.{Bytes as Wrote, Unwritten}
+use Rattle.format.specs.declared.Refusal.{Refusal}
 use Rattle.format.specs.Byte.{RefusedBy}
 use Rattle.format.specs.Refusals as no
 
@@ -144,9 +143,9 @@ pub data WriteRefuses (rows out : ℕ) : ℕ → ℕ → ℕ → Type 0 where
   unsuits : {row : ℕ} → row < rows → WriteRefuses rows out no.unwritable row 0
 
 -- write reports so many bytes, no more than the output has; or refuses
-abbrev pub WriteSays : ℕ → ℕ → Written → Type 0
-WriteSays rows out (Wrote n) = n ≤ out
-WriteSays rows out (Unwritten n told place) = WriteRefuses rows out n told place
+abbrev pub WriteSays : ℕ → ℕ → Result ℕ Refusal → Type 0
+WriteSays rows out (Ok n) = n ≤ out
+WriteSays rows out (Err r) = WriteRefuses rows out r.number r.told r.place
 
 -- ---- what a refusal leaves
 
@@ -176,7 +175,7 @@ abbrev pub read_answer : Read → Answer
 read_answer (read a m) = a
 
 -- the answer of a write
-abbrev pub write_answer : Output → Written
+abbrev pub write_answer : Output → Result ℕ Refusal
 write_answer (output a out) = a
 
 -- ---- how a feed on any state ends

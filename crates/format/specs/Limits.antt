@@ -1,5 +1,5 @@
 -- Why a reading is refused by a limit or for want of room, how it ends, and how it and the standard agree.
-use Rattle.std.specs.Prelude.{◌≡◌, ◌≢◌, get_or}
+use Rattle.std.specs.Prelude.{Some, ◌≡◌, ◌≢◌, get_or}
 use mathlib.Core.List.{List, [], ◌∷◌, ◌++◌}
 use Prim.Native.Nat.{ℕ, zero, suc, ◌+◌, ◌*◌, ◌/◌, ◌≤◌, ◌<◌, ◌^◌}
 use Rattle.std.proofs.Math.ListN.{length, take}
@@ -83,17 +83,17 @@ EndsTrait (for_vector row n) = ⊥
 -- byte b ends this string, and it is there: a text that is valid and has room among the strings, a string by number, or the empty one
 pub data There (c : Cursor) (m : Memory) (b : ℕ) : Mode → Use → Type 0 where
   by_text : {u : Use} {s : Span} {test : ℕ} → step_of test b ≡ 0 → c.strings < length m.strings / span_width → There c m b (at_text (table_text u) s zero test) u
-  by_number : {u : Use} {left part w i : ℕ} → part_of left part b ≡ Whole w → size_of w ≡ Old i → i < c.strings → There c m b (at_word (text_word u) left part) u
-  by_none : {u : Use} {left part w : ℕ} → part_of left part b ≡ Whole w → size_of w ≡ New zero → There c m b (at_word (text_word u) left part) u
+  by_number : {u : Use} {left part w i : ℕ} → part_of left part b ≡ Some (Whole w) → size_of w ≡ Old i → i < c.strings → There c m b (at_word (text_word u) left part) u
+  by_none : {u : Use} {left part w : ℕ} → part_of left part b ≡ Some (Whole w) → size_of w ≡ New zero → There c m b (at_word (text_word u) left part) u
 
 -- byte b, for a mode, asks for more of a loan of m than is left of it, and of no loan before that one: for an entry, and all are used; of the store for bytes
 pub data Lacks (c : Cursor) (m : Memory) (b : ℕ) : Mode → ℕ → Type 0 where
   no_row : {k : Key} → b ≤ 0x11 → length m.rows / row_width ≤ c.rows → Lacks c m b (at_marker k) loan_rows
-  no_store : {w : Word} {left part n : ℕ} → part_of left part b ≡ Whole n → (Enters w n → c.objects < length m.objects)
+  no_store : {w : Word} {left part n : ℕ} → part_of left part b ≡ Some (Whole n) → (Enters w n → c.objects < length m.objects)
       → length m.store < c.store + asked w (size_of n) → Lacks c m b (at_word w left part) loan_store
   no_string : {u : Use} {s : Span} {test : ℕ} → step_of test b ≡ 0 → length m.strings / span_width ≤ c.strings
       → Lacks c m b (at_text (table_text u) s zero test) loan_strings
-  no_object : {w : Word} {left part n : ℕ} → part_of left part b ≡ Whole n → Enters w n → length m.objects ≤ c.objects
+  no_object : {w : Word} {left part n : ℕ} → part_of left part b ≡ Some (Whole n) → Enters w n → length m.objects ≤ c.objects
       → Lacks c m b (at_word w left part) loan_objects
   no_trait : {x : Mode} {u : Use} → There c m b x u → EndsTrait u → (IsName u → c.names < length m.names / span_width)
       → length m.traits / trait_width ≤ c.traits → Lacks c m b x loan_traits

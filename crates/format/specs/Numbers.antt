@@ -15,7 +15,8 @@ use Rattle.format.specs.Codes.{status_waiting, status_finished, status_refused, 
 use Rattle.format.specs.Codes.{mode_raw, purpose_integer, purpose_double, purpose_object, purpose_date_bits, purpose_xml, purpose_date, purpose_array}
 use Rattle.format.specs.Codes.{purpose_byte_array, purpose_fours, purpose_eights, purpose_object_vector, purpose_dictionary, purpose_string, purpose_key, purpose_dynamic_key}
 use Rattle.format.specs.Codes.{purpose_class, purpose_external, purpose_name, purpose_vector_class}
-use Rattle.format.specs.declared.Lent.{Lent}
+use Rattle.rows.specs.declared.lent.Lent.{Lent}
+unfoldable pub use Rattle.rows.specs.Lent.{lent_of}
 use Rattle.format.specs.declared.Work.{Work}
 use Rattle.format.specs.declared.Head.{Head}
 use Rattle.format.specs.declared.Frame.{Frame}
@@ -198,17 +199,6 @@ memory_of (over (refused number told place m)) = m
 memory_of (none m) = m
 
 -- ---- the step on every state
-
-unfoldable pub lent_of : Memory → Lent
-lent_of m =
-    record {
-      rows = length m.rows;
-      store = length m.store;
-      strings = length m.strings;
-      objects = length m.objects;
-      traits = length m.traits;
-      names = length m.names;
-    }
 
 unfoldable pub same_lent : Lent → Lent → Bool
 same_lent a b =

@@ -1,9 +1,8 @@
 -- Orders one after the other: tables that the writer accepts, the bytes that it writes of them, and what readings find in such bytes joined together.
-use Rattle.std.specs.Prelude.{◌≡◌, true, List, [], ◌∷◌, ◌++◌, map, ℕ, zero, suc, take, drop}
+use Rattle.std.specs.Prelude.{Ok, ◌≡◌, true, List, [], ◌∷◌, ◌++◌, map, ℕ, zero, suc, take, drop}
 use Rattle.rows.specs.Memory.{Memory}
 use Rattle.wire.specs.Octets.{Bytes}
 use Rattle.format.specs.declared.Answer.TheVariants.{Waiting, Finished, Refused}
-use Rattle.format.specs.declared.Written.TheVariants.{Bytes as Written}
 use Rattle.format.specs.Standard.{Tree}
 use Rattle.format.specs.Unfold.{unfolded}
 use Rattle.format.specs.Holds.{can_hold}
@@ -22,7 +21,7 @@ pub record Order : Type 0 where
   pub size : ℕ
   pub wide : Wide rows
   pub octets : Bytes store
-  pub accepted : write_call rows store out ≡ output (Written size) out_after
+  pub accepted : write_call rows store out ≡ output (Ok size) out_after
 
 -- the bytes that are reported
 abbrev pub order_bytes : Order → List ℕ

@@ -1,12 +1,12 @@
 -- The whole reading of a message, by recursion on how many values may still open.
-use Rattle.std.specs.Prelude.{Bool, true, cond, List, [], ◌∷◌, ℕ, zero, suc, ◌+◌, ◌*◌, leb, eqb, length}
+use Rattle.std.specs.Prelude.{Option, Some, None, Bool, true, cond, List, [], ◌∷◌, ℕ, zero, suc, ◌+◌, ◌*◌, leb, eqb, length}
 use Rattle.rows.specs.declared.Cursor.{Cursor}
 use Rattle.rows.specs.declared.Span.{Span}
 use Rattle.rows.specs.declared.Key.{Key}
 use Rattle.rows.specs.declared.Trait.{Trait}
 use Rattle.rows.specs.Memory.{Memory, cursor, fresh, zeroed, fault_of, message_limit, open_limit, col_count, col_count2, no_span, no_key, key_of}
 use Rattle.wire.specs.declared.Part.{Part}
-use Rattle.wire.specs.declared.Part.TheVariants.{More, Whole, Astray}
+use Rattle.wire.specs.declared.Part.TheVariants.{More, Whole}
 use Rattle.wire.specs.declared.Size.{Size}
 use Rattle.wire.specs.declared.Size.TheVariants.{Old, New}
 use Rattle.wire.specs.declared.Shape.{Shape}
@@ -51,10 +51,10 @@ byte m c (b ∷ bs) = cond (leb message_limit c.at) (bad no.too_long 0 c.at m) (
 -- ---- numbers, words and texts
 
 -- after a byte of a number: it is whole, or more of it comes
-abbrev pub on_part : (ℕ → Reader ℕ) → Part → Reader ℕ
-on_part more (More n) = more n
-on_part more (Whole n) = ret n
-on_part more Astray = by (λ m c. lost)
+abbrev pub on_part : (ℕ → Reader ℕ) → Option Part → Reader ℕ
+on_part more (Some (More n)) = more n
+on_part more (Some (Whole n)) = ret n
+on_part more None = by (λ m c. lost)
 
 -- a U29 of which this byte and at most `left` more come, n so far
 unfoldable pub u29 : ℕ → ℕ → Reader ℕ

@@ -1,6 +1,6 @@
 -- The reading byte by byte: what a state waits for, and what the next byte makes of it. The decisions are Decide's, one waiting point at a time:
 -- `act` by the mode; then `worded`, `number_done`, `flag_done`, `text_done`; then `had`, `opened`; then `onward` and `pop`.
-use Rattle.std.specs.Prelude.{Bool, cond, List, [], ◌∷◌, ℕ, zero, suc, ◌+◌, ◌*◌, ◌-◌, leb, eqb, length}
+use Rattle.std.specs.Prelude.{Option, Some, None, Bool, cond, List, [], ◌∷◌, ℕ, zero, suc, ◌+◌, ◌*◌, ◌-◌, leb, eqb, length}
 use Rattle.rows.specs.declared.Cursor.{Cursor}
 use Rattle.rows.specs.declared.Span.{Span}
 use Rattle.rows.specs.declared.Key.{Key}
@@ -10,7 +10,7 @@ use Rattle.format.specs.Codes.{task_pairs, task_dynamics, task_dense, task_vecto
 use Rattle.format.specs.declared.Frame.{Frame}
 use Rattle.rows.specs.Memory.{Memory, fresh, zeroed, fault_of, message_limit, open_limit, col_count, col_count2, no_span, no_key, key_of}
 use Rattle.wire.specs.declared.Part.{Part}
-use Rattle.wire.specs.declared.Part.TheVariants.{More, Whole, Astray}
+use Rattle.wire.specs.declared.Part.TheVariants.{More, Whole}
 use Rattle.wire.specs.declared.Size.{Size}
 use Rattle.wire.specs.declared.Size.TheVariants.{Old, New}
 use Rattle.wire.specs.declared.Shape.{Shape}
@@ -304,10 +304,10 @@ unfoldable pub shown : Key → Key
 shown k = cond (eqb k.mark 0) no_key k
 
 -- after a byte of a number
-abbrev pub on_part : Part → Memory → (ℕ → State) → (ℕ → State) → State
-on_part Astray m more whole = broken m
-on_part (More n) m more whole = more n
-on_part (Whole n) m more whole = whole n
+abbrev pub on_part : Option Part → Memory → (ℕ → State) → (ℕ → State) → State
+on_part None m more whole = broken m
+on_part (Some (More n)) m more whole = more n
+on_part (Some (Whole n)) m more whole = whole n
 
 -- byte b for a mode, the cursor already past it
 unfoldable pub act : Mode → ℕ → List Frame → Cursor → Memory → State

@@ -1,7 +1,7 @@
 -- What a byte's step looks up out of range: an entry of a table by its number, a trait that its last name makes whole, a sealed member's name, or a frame around a
 -- value that the byte finishes. Of a state whose head holds together, and that may take a byte more, the step is a 12 exactly where one of these strays. What isn't
 -- looked up isn't tested. Which value a byte finishes is said by the step itself, with no frame around.
-use Rattle.std.specs.Prelude.{◌≡◌, List, [], ◌∷◌, ℕ, suc, ◌+◌, ◌/◌, ◌<◌, length}
+use Rattle.std.specs.Prelude.{Some, ◌≡◌, List, [], ◌∷◌, ℕ, suc, ◌+◌, ◌/◌, ◌<◌, length}
 use Rattle.rows.specs.declared.Cursor.{Cursor}
 use Rattle.rows.specs.declared.Trait.{Trait}
 use Rattle.rows.specs.Memory.{Memory, open_limit, span_width, trait_width, span_at}
@@ -44,16 +44,16 @@ Refers (text_word u) w i = ⊥
 -- what byte b looks up for a mode strays, with these frames around and so much used
 pub data Strays (b : ℕ) : Mode → List Frame → Cursor → Memory → Type 0 where
   -- a string by number
-  string_entry : {u : Use} {left part w i : ℕ} {ts : List Frame} {c : Cursor} {m : Memory} → part_of left part b ≡ Whole w → size_of w ≡ Old i → i < c.strings
+  string_entry : {u : Use} {left part w i : ℕ} {ts : List Frame} {c : Cursor} {m : Memory} → part_of left part b ≡ Some (Whole w) → size_of w ≡ Old i → i < c.strings
       → (SpanIn (span_at m.strings i) c → ⊥) → Strays b (at_word (text_word u) left part) ts c m
   -- an object by number
-  object_entry : {x : Word} {left part w i : ℕ} {ts : List Frame} {c : Cursor} {m : Memory} → part_of left part b ≡ Whole w → Refers x w i → i < c.objects
+  object_entry : {x : Word} {left part w i : ℕ} {ts : List Frame} {c : Cursor} {m : Memory} → part_of left part b ≡ Some (Whole w) → Refers x w i → i < c.objects
       → (ObjectIn i c m → ⊥) → Strays b (at_word x left part) ts c m
   -- a trait by number, of an object that has room
-  trait_entry : {row left part w i : ℕ} {ts : List Frame} {c : Cursor} {m : Memory} → part_of left part b ≡ Whole w → shape_of w ≡ Known i
+  trait_entry : {row left part w i : ℕ} {ts : List Frame} {c : Cursor} {m : Memory} → part_of left part b ≡ Some (Whole w) → shape_of w ≡ Known i
       → c.objects < length m.objects → i < c.traits → (TraitIn (trait_at m.traits i) c → ⊥) → Strays b (at_word (object_word row) left part) ts c m
   -- the name of the first sealed member of such a trait
-  entry_name : {row left part w i : ℕ} {ts : List Frame} {c : Cursor} {m : Memory} → part_of left part b ≡ Whole w → shape_of w ≡ Known i
+  entry_name : {row left part w i : ℕ} {ts : List Frame} {c : Cursor} {m : Memory} → part_of left part b ≡ Some (Whole w) → shape_of w ≡ Known i
       → c.objects < length m.objects → i < c.traits → TraitIn (trait_at m.traits i) c → 0 < (trait_at m.traits i).count
       → (NameIn (trait_at m.traits i).first c m → ⊥) → Strays b (at_word (object_word row) left part) ts c m
   -- a trait whose last name is there and has room among the names

@@ -1,8 +1,6 @@
 -- What a row is asked for: its text, a part of the store, or the caller's own default; its date's milliseconds.
-use Rattle.std.specs.Prelude.{cond, ◌&&◌, List, ℕ, ◌+◌, leb, eqb, length}
+use Rattle.std.specs.Prelude.{Option, None, cond, ◌&&◌, List, ℕ, ℤ, ◌+◌, leb, eqb, length}
 use Rattle.wire.specs.Date.{moment_of}
-use Rattle.wire.specs.declared.Moment.{Moment}
-use Rattle.wire.specs.declared.Moment.TheVariants.{None}
 use Rattle.rows.specs.Kinds.{kind_date}
 use Rattle.rows.specs.Memory.{rows_fault, col_kind, col_body_begin, col_body_size, col_number, col}
 use Rattle.format.specs.Unfold.{home, part}
@@ -31,9 +29,9 @@ unfoldable pub text_or : List ℕ → List ℕ → ℕ → List ℕ → List ℕ
 text_or R B i default = text_from (text_span R B i) B default
 
 -- row i is there, and is a date that is finite: its milliseconds. Nothing else of the row is looked at
-abbrev pub moment_in : List ℕ → ℕ → Moment
+abbrev pub moment_in : List ℕ → ℕ → Option ℤ
 moment_in R i = cond (eqb (col R i col_kind) kind_date) (moment_of (col R i col_number)) None
 
 -- a reference answers as its target, as for text; there are none in loans that 1 refuses
-unfoldable pub moment_at : List ℕ → List ℕ → ℕ → Moment
+unfoldable pub moment_at : List ℕ → List ℕ → ℕ → Option ℤ
 moment_at R B i = cond (eqb (rows_fault R B) 0) (moment_in R (home R i)) None

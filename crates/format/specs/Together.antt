@@ -8,7 +8,7 @@ use Rattle.rows.specs.declared.Trait.{Trait}
 use Rattle.wire.specs.U29.{word_more, word_bits}
 use Rattle.wire.specs.Big.{number_more, number_bits}
 use Rattle.utf8.specs.States.{text_broken}
-use Rattle.format.specs.declared.Lent.{Lent}
+use Rattle.rows.specs.declared.lent.Lent.{Lent}
 use Rattle.format.specs.Decide.{class_of, trait_at}
 use Rattle.format.specs.Step.{assoc, dynamics, Use, for_string, for_key, for_class, for_external, for_name, for_vector, Text, xml_text, table_text, raw_row}
 use Rattle.format.specs.Step.{Word, integer_word, object_word, size_word, text_word, Number, double_bits, date_bits, Flag, raw_flag, objects_flag}

@@ -9,9 +9,7 @@ pub mod refusals;
 pub mod statuses;
 pub mod tasks;
 
-ghost use Rattle.std.specs.Prelude.{◌≡◌};
-ghost use Rattle.format.specs.Numbers.{no_work};
-
+pub use rows::Lent;
 use rows::{Cursor, OPEN_LIMIT, Span, Trait};
 
 // ---- frames
@@ -25,7 +23,8 @@ pub const FRAMES_SIZE: usize = OPEN_LIMIT * FRAME_WIDTH;
 pub type Frames = [usize; FRAMES_SIZE];
 
 // What a reading answers: it waits; it is finished, with so many rows and store bytes used; or it is refused. `taken` counts bytes taken.
-#[derive(Clone, Copy)]
+// Three answers side by side, not a Result: each tells the bytes taken, and C gets all three as `Coded`.
+#[derive(Clone, Copy, PartialEq, Eq)]
 pub enum Answer {
     Waiting {
         taken: usize,
@@ -43,32 +42,20 @@ pub enum Answer {
     },
 }
 
+// A refusal: its number, the value that it tells, and the place.
+#[derive(Clone, Copy, PartialEq, Eq)]
+pub struct Refusal {
+    pub number: usize,
+    pub told: usize,
+    pub place: usize,
+}
+
 // What a writing answers: so many bytes written, or refused.
-#[derive(Clone, Copy)]
-pub enum Written {
-    Bytes(usize),
-    Unwritten {
-        no: usize,
-        told: usize,
-        place: usize,
-    },
-}
+pub type Written = Result<usize, Refusal>;
 
-// The lengths of the loans at the beginning.
+// What the next byte is for: a mode and the numbers that it works with. The default is no work.
 #[repr(C)]
-#[derive(Clone, Copy)]
-pub struct Lent {
-    pub rows: usize,
-    pub store: usize,
-    pub strings: usize,
-    pub objects: usize,
-    pub traits: usize,
-    pub names: usize,
-}
-
-// What the next byte is for: a mode and the numbers that it works with.
-#[repr(C)]
-#[derive(Clone, Copy)]
+#[derive(Clone, Copy, PartialEq, Eq, Default)]
 pub struct Work {
     pub mode: usize,
     pub purpose: usize,
@@ -83,7 +70,7 @@ pub struct Work {
 
 // A state beside its frames: whether it waits, a refusal, the loans' lengths, what is used, how many values are open, and the work.
 #[repr(C)]
-#[derive(Clone, Copy)]
+#[derive(Clone, Copy, PartialEq, Eq, Default)]
 pub struct Head {
     pub status: usize,
     pub number: usize,
@@ -96,7 +83,7 @@ pub struct Head {
 }
 
 // What an open value still has to read.
-#[derive(Clone, Copy)]
+#[derive(Clone, Copy, PartialEq, Eq, Default)]
 pub struct Frame {
     pub task: usize,
     pub row: usize,
@@ -104,29 +91,4 @@ pub struct Frame {
     pub done: usize,
     pub first: usize,
     pub dynamic: usize,
-}
-
-// No work.
-pub fn idle() -> Work
-    ensures { result ≡ no_work }
-{
-    let span = Span { begin: 0, size: 0 };
-    let kind = Trait {
-        begin: 0,
-        size: 0,
-        dynamic: 0,
-        first: 0,
-        count: 0,
-    };
-    Work {
-        mode: 0,
-        purpose: 0,
-        row: 0,
-        left: 0,
-        part: 0,
-        span,
-        kind,
-        count: 0,
-        done: 0,
-    }
 }

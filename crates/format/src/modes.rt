@@ -1,4 +1,5 @@
 // What the next byte of a reading that waits is of.
+// Numbers, not an enum: C lends the state, and any number in it has an answer (`apart-lost`).
 
 pub const MARKER: usize = 1;
 

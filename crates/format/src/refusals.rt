@@ -1,4 +1,5 @@
 // The refusals, by document 01's numbers.
+// Numbers, not an enum: C and the calls tell a refusal by its number.
 
 // A loan is over its maximum or not whole entries; tells the loan.
 pub const BAD_LOAN: usize = 1;

@@ -1,4 +1,5 @@
 // Whether a state waits, is finished or refused; any other number was never begun.
+// Numbers, not an enum: C lends the state, and any number in it has an answer (`apart-lost`).
 
 pub const WAITING: usize = 1;
 

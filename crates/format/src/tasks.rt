@@ -1,4 +1,5 @@
 // What an open value still has to read.
+// Numbers, not an enum: C lends the state, and any number in it has an answer (`apart-lost`).
 
 pub const PAIRS: usize = 1;
 

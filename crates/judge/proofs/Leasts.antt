@@ -3,46 +3,33 @@ use mathlib.Core.Path.{◌≡◌, refl, sym, ◌∙◌}
 use mathlib.Core.Bool.{Bool, true, false, cond, ◌&&◌}
 use mathlib.Core.List.{List}
 use Prim.Native.Nat.{ℕ, zero, suc, ◌+◌, ◌<◌, ◌≤◌}
+use Rattle.std.specs.Prelude.{Option, Some, None, min}
 use native.Mathlib.Omega.{arith}
 use native.Mathlib.Decide.{dec_lt, dec_le}
-use borrow.Author.Tests.{lt-ltb, le-ltb, le-leb, lt-leb}
 use lib.Dec.{leb, ltb}
 use Rattle.rows.specs.Memory.{col_end, col}
 use Rattle.format.specs.Unfold.{after}
 use Rattle.format.specs.RowTest.{closes, Given}
 use Rattle.format.proofs.Tests.{on_bool}
 use Rattle.format.proofs.Tested.{one-closes, walk-long}
-use Rattle.judge.specs.declared.Walked.{Walked}
-use Rattle.judge.specs.declared.Walked.TheVariants.{Closed, Broken}
-use Rattle.judge.specs.Pass.{gives_by, is_wrong, is_empty, lower, walk, capped}
+use Rattle.judge.specs.declared.Least.{Least}
+use Rattle.judge.specs.Pass.{gives_by, is_wrong, is_empty, lower, least, with_row, walk, capped}
 
 -- ---- one row looked at
 
 lower_le : (b : Bool) (k l : ℕ) → lower b k l ≤ l
 unfolding lower
-lower_le true k l =
-    elim (dec_lt k l) [
-      | yes h ↦ rw (lt-ltb k l h) (omega arith)
-      | no h ↦ (let g : l ≤ k = omega arith in rw (le-ltb k l g) (omega arith))
-    ]
+lower_le true k l = omega arith
 lower_le false k l = omega arith
 
 lower-bad : (k l : ℕ) → lower true k l ≤ k
 unfolding lower
-lower-bad k l =
-    elim (dec_lt k l) [
-      | yes h ↦ rw (lt-ltb k l h) (omega arith)
-      | no h ↦ (let g : l ≤ k = omega arith in rw (le-ltb k l g) (omega arith))
-    ]
+lower-bad k l = omega arith
 
 -- if it is a new least, it is faulty
 lower-new : (b : Bool) (k l : ℕ) → lower b k l < l → (lower b k l ≡ k) × (b ≡ true)
 unfolding lower
-lower-new true k l h =
-    elim (dec_lt k l) [
-      | yes g ↦ rw (lt-ltb k l g) (refl, refl)
-      | no g ↦ (let f : l ≤ k = omega arith in absurd (let q = rw (le-ltb k l f) at h in omega arith))
-    ]
+lower-new true k l h = (omega arith, refl)
 lower-new false k l h = absurd (omega arith)
 
 -- ---- children, number j given `gives j`
@@ -108,39 +95,36 @@ module _ (R : List ℕ) (gives : ℕ → Given) (bad : ℕ → Given → Bool) w
 -- ---- the walk with its two least rows
 
 module _ (R : List ℕ) (kind count : ℕ) where
-  abbrev pub last_wrong : ℕ → ℕ → ℕ → ℕ → ℕ
-  last_wrong k j n w = least_of R (gives_by kind count) (is_wrong R) k j n w
+  -- the least rows behind n children from row k on
+  abbrev pub behind : ℕ → ℕ → ℕ → Least → Least
+  behind k j n l =
+      least (least_of R (gives_by kind count) (is_wrong R) k j n l.wrong) (least_of R (gives_by kind count) (is_empty R) k j n l.empty)
 
-  abbrev pub last_empty : ℕ → ℕ → ℕ → ℕ → ℕ
-  last_empty k j n e = least_of R (gives_by kind count) (is_empty R) k j n e
-
-  pub walk_is : (stop k j n w e : ℕ)
-      → walk R kind count stop k j n w e ≡ cond (closes R stop k n) (Closed (last_wrong k j n w) (last_empty k j n e)) Broken
+  pub walk_is : (stop k j n : ℕ) (l : Least) → walk R kind count stop k j n l ≡ cond (closes R stop k n) (Some (behind k j n l)) None
   unfolding walk closes least_of
-  walk_is stop k j zero w e = refl
-  walk_is stop k j (suc n) w e =
-      let w' = lower (is_wrong R k (gives_by kind count j)) k w in
-      let e' = lower (is_empty R k (gives_by kind count j)) k e in
+  walk_is stop k j zero l = refl
+  walk_is stop k j (suc n) l =
+      let l' = with_row R k (gives_by kind count j) l in
       here (ltb k (col R k col_end) && leb (col R k col_end) stop) (closes R stop (col R k col_end) n)
-      (Closed (last_wrong (col R k col_end) (suc j) n w') (last_empty (col R k col_end) (suc j) n e')) (walk_is stop (col R k col_end) (suc j) n w' e')
+      (Some (behind (col R k col_end) (suc j) n l')) (walk_is stop (col R k col_end) (suc j) n l')
     where
-      here : {x : Walked} (t c : Bool) (good : Walked) → x ≡ cond c good Broken → cond t x Broken ≡ cond (t && c) good Broken
+      here : {x : Option Least} (t c : Bool) (good : Option Least) → x ≡ cond c good None → cond t x None ≡ cond (t && c) good None
       here true c good q = q
       here false c good q = refl
 
   -- more children than there are rows don't close
-  pub walk-broken : (stop k j n w e : ℕ) → stop < k + n → walk R kind count stop k j n w e ≡ Broken
-  walk-broken stop k j n w e h =
-      walk_is stop k j n w e
+  pub walk-broken : (stop k j n : ℕ) (l : Least) → stop < k + n → walk R kind count stop k j n l ≡ None
+  walk-broken stop k j n l h =
+      walk_is stop k j n l
       ∙ on_bool (closes R stop k n) (λ t. absurd (omega (arith, walk-long R stop k n t))) (λ t. rw t)
 
-  pub walk-capped : (stop k j n w e most : ℕ) → 0 < k → stop ≤ most
-      → walk R kind count stop k j (capped most n) w e ≡ walk R kind count stop k j n w e
+  pub walk-capped : (stop k j n : ℕ) (l : Least) (most : ℕ) → 0 < k → stop ≤ most
+      → walk R kind count stop k j (capped most n) l ≡ walk R kind count stop k j n l
   unfolding capped
-  walk-capped stop k j n w e most l h =
+  walk-capped stop k j n l most p h =
       elim (dec_le n most) [
-        | yes g ↦ rw (le-leb n most g)
+        | yes g ↦ (let e : min n most ≡ n = omega arith in rw e)
         | no g ↦
-            (let f : most < n = omega arith in
-            rw (lt-leb n most f) (walk-broken stop k j most w e (omega arith) ∙ sym (walk-broken stop k j n w e (omega arith))))
+            (let e : min n most ≡ most = omega arith in
+            rw e (walk-broken stop k j most l (omega arith) ∙ sym (walk-broken stop k j n l (omega arith))))
       ]

@@ -4,6 +4,7 @@ use mathlib.Core.Bool.{Bool, true, false, cond, not, ◌&&◌, ◌||◌}
 use mathlib.Core.List.{List}
 use mathlib.Core.Logic.{◌≢◌}
 use Prim.Native.Nat.{ℕ, zero, suc, ◌+◌, ◌<◌, ◌≤◌}
+use Rattle.std.specs.Prelude.{Some, None, min}
 use native.Mathlib.Omega.{arith}
 use native.Mathlib.Decide.{dec_lt, ℕ_discrete}
 use borrow.Author.Tests.{lt-ltb, ltb-true, leb-true, eqb-false, eq-eqb, ne_eqb}
@@ -16,9 +17,9 @@ use Rattle.format.specs.RowTest.{mark_fits, columns_fit, value_fits, children, c
 use Rattle.format.specs.RowTest.{number_writable, body_writable, key_writable, writable, Tested, faulty, test_from, tested}
 use Rattle.format.proofs.Tests.{on_bool, both}
 use Rattle.format.proofs.Tested.{Shut}
-use Rattle.judge.specs.declared.Walked.TheVariants.{Closed, Broken}
-use Rattle.judge.specs.Pass.{row_fits, row_writable, gives_by, is_wrong, is_empty, lower, walk_of, on_walk, pass, passed}
-use Rattle.judge.proofs.Leasts.{least_of, least_le, below, newest, above, walk_is}
+use Rattle.judge.specs.declared.Least.{Least}
+use Rattle.judge.specs.Pass.{row_fits, row_writable, gives_by, is_wrong, is_empty, lower, least, walk_of, on_walk, pass, passed}
+use Rattle.judge.proofs.Leasts.{least_of, least_le, below, newest, above, behind, walk_is}
 use Rattle.judge.proofs.Parents.{Gets, root, child, only, some}
 
 -- ---- the least faulty row, by any test of a row and what it is given
@@ -153,17 +154,16 @@ module _ (R B : List ℕ) where
   -- ---- all rows
 
   -- the answers of a row that fits, by its other tests
-  answers : {more : Tested} (i : ℕ) (f : ℕ → ℕ → Tested) (x y : ℕ) (a c e u : Bool)
-      → (a ≡ false → c ≡ true → e ≡ false → u ≡ true → f x y ≡ more)
-      → cond a (faulty 13 i) (on_walk (cond c (Closed x y) Broken) (λ x y. cond e (faulty 14 i) (cond u (f x y) (faulty 14 i))) (faulty 13 i))
+  answers : {more : Tested} (i : ℕ) (f : Least → Tested) (x : Least) (a c e u : Bool) → (a ≡ false → c ≡ true → e ≡ false → u ≡ true → f x ≡ more)
+      → cond a (faulty 13 i) (on_walk (cond c (Some x) None) (λ x. cond e (faulty 14 i) (cond u (f x) (faulty 14 i))) (faulty 13 i))
       ≡ cond (c && not a) (cond (u && not e) more (faulty 14 i)) (faulty 13 i)
-  answers i f x y true true e u h = refl
-  answers i f x y true false e u h = refl
-  answers i f x y false false e u h = refl
-  answers i f x y false true true true h = refl
-  answers i f x y false true true false h = refl
-  answers i f x y false true false false h = refl
-  answers i f x y false true false true h = h refl refl refl refl
+  answers i f x true true e u h = refl
+  answers i f x true false e u h = refl
+  answers i f x false false e u h = refl
+  answers i f x false true true true h = refl
+  answers i f x false true true false h = refl
+  answers i f x false true false false h = refl
+  answers i f x false true false true h = h refl refl refl refl
 
   shut-next : (i : ℕ) → Shut R i → closes R (col R i col_end) (suc i) (children R i) ≡ true → Shut R (suc i)
   shut-next i shut c q h =
@@ -172,25 +172,27 @@ module _ (R B : List ℕ) where
         | no e ↦ shut q (omega arith)
       ]
 
-  pass-is : (n i w e : ℕ) → Low R (is_wrong R) i w → Low R (is_empty R) i e → Shut R i → i + n ≡ rows_in R → pass R B i n w e ≡ test_from R B i n
+  pass-is : (n i : ℕ) (l : Least) → Low R (is_wrong R) i l.wrong → Low R (is_empty R) i l.empty → Shut R i → i + n ≡ rows_in R
+      → pass R B i n l ≡ test_from R B i n
   unfolding pass test_from walk_of
-  pass-is zero i w e W E shut s = refl
-  pass-is (suc n) i w e W E shut s =
+  pass-is zero i l W E shut s = refl
+  pass-is (suc n) i l W E shut s =
       on_bool (row_fits R B i)
       (λ f.
       let z = (fits-ends i f).0 in
       let h : i < rows_in R = omega arith in
       rw (
-        formed-is i w (bad-is R (is_wrong R) i w W shut h z),
-        writable-is i e (bad-is R (is_empty R) i e E shut h z),
+        formed-is i l.wrong (bad-is R (is_wrong R) i l.wrong W shut h z),
+        writable-is i l.empty (bad-is R (is_empty R) i l.empty E shut h z),
         f,
-        walk_is R (col R i col_kind) (col R i col_count) (col R i col_end) (suc i) 0 (children R i) w e,
+        walk_is R (col R i col_kind) (col R i col_count) (col R i col_end) (suc i) 0 (children R i) l,
       )
-      (answers i (λ x y. pass R B (suc i) n x y) (next R (is_wrong R) i w) (next R (is_empty R) i e) (eqb w i)
-      (closes R (col R i col_end) (suc i) (children R i)) (eqb e i) (row_writable R B i)
-      (λ a c b u. pass-is n (suc i) (next R (is_wrong R) i w) (next R (is_empty R) i e) (step R (is_wrong R) i w W c (eqb-false w i a))
-      (step R (is_empty R) i e E c (eqb-false e i b)) (shut-next i shut c) (omega arith))))
-      (λ f. rw (f, unfit i f) (same (eqb w i)))
+      (answers i (λ x. pass R B (suc i) n x) (behind R (col R i col_kind) (col R i col_count) (suc i) 0 (children R i) l) (eqb l.wrong i)
+      (closes R (col R i col_end) (suc i) (children R i)) (eqb l.empty i) (row_writable R B i)
+      (λ a c b u. pass-is n (suc i) (behind R (col R i col_kind) (col R i col_count) (suc i) 0 (children R i) l)
+      (step R (is_wrong R) i l.wrong W c (eqb-false l.wrong i a)) (step R (is_empty R) i l.empty E c (eqb-false l.empty i b)) (shut-next i shut c)
+      (omega arith))))
+      (λ f. rw (f, unfit i f) (same (eqb l.wrong i)))
     where
       same : (a : Bool) → cond a (faulty 13 i) (faulty 13 i) ≡ faulty 13 i
       same true = refl
@@ -199,7 +201,7 @@ module _ (R B : List ℕ) where
   start : (bad : ℕ → Given → Bool) → 0 < rows_in R → Low R bad 0 (lower (bad 0 keyless) 0 (rows_in R))
   unfolding lower
   start bad h = on_bool (bad 0 keyless)
-      (λ t. rw (t, lt-ltb 0 (rows_in R) h)
+      (λ t. let e : min (rows_in R) 0 ≡ 0 = omega arith in rw (t, e)
       (record { clean = λ k g x l. absurd (omega arith); fault = λ l. (keyless, root refl refl, t); ahead = omega arith }))
       (λ t. rw t (record { clean = λ k g x l. clean t x; fault = λ l. absurd (omega arith); ahead = omega arith }))
     where
@@ -208,8 +210,8 @@ module _ (R B : List ℕ) where
       clean t (child p j l h q f) = absurd (omega arith)
 
   pub passed_is : passed R B ≡ tested R B
-  unfolding passed tested lower is_empty
+  unfolding passed tested
   passed_is = on_bool (eqb (rows_in R) 0) (λ t. rw t)
       (λ t. let h : 0 < rows_in R = (let d = eqb-false (rows_in R) 0 t in omega arith) in
-      rw t (pass-is (rows_in R) 0 (lower (is_wrong R 0 keyless) 0 (rows_in R)) (rows_in R) (start (is_wrong R) h) (start (is_empty R) h)
-      (λ q l. absurd (omega arith)) (omega arith)))
+      rw t (pass-is (rows_in R) 0 (least (lower (is_wrong R 0 keyless) 0 (rows_in R)) (lower (is_empty R 0 keyless) 0 (rows_in R)))
+      (start (is_wrong R) h) (start (is_empty R) h) (λ q l. absurd (omega arith)) (omega arith)))

@@ -1,12 +1,9 @@
 -- Texts that are known.
-use mathlib.Core.Path.{◌≡◌, refl, sym}
+use mathlib.Core.Path.{◌≡◌, refl}
 use mathlib.Core.Bool.{Bool, true, false, cond, not, ◌&&◌}
-use mathlib.Core.List.{List, [], ◌∷◌}
-use mathlib.Core.Logic.{◌≢◌}
+use mathlib.Core.List.{List}
 use Prim.Native.Nat.{ℕ}
-use native.Mathlib.Omega.{arith}
 use lib.Dec.{eqb, ltb}
-use lib.ListN.{length, get_or}
 use Rattle.rows.specs.declared.Span.{Span}
 use Rattle.rows.specs.Memory.{span, col_kind, col_key_size, col_body_begin, col_body_size, col_class_mark, col}
 use Rattle.rows.specs.Kinds.{kind_object}
@@ -15,23 +12,20 @@ use Rattle.format.specs.Standard.{is_star}
 use Rattle.format.specs.Unfold.{part, body_of, key_text}
 use Rattle.format.specs.RowTest.{has_text, has_class, number_writable, body_writable}
 use Rattle.format.proofs.Tests.{on_bool, both}
-use Rattle.judge.specs.Pass.{row_writable, last_key, last_body}
-
--- a span of the store is a text
-abbrev pub is_valid : List ℕ → Span → Type 0
-is_valid B s = valid_text (part B s.begin s.size) ≡ true
+use Rattle.judge.specs.declared.Known.{Known}
+use Rattle.judge.specs.Pass.{is_valid, Valid, row_writable, last_key, last_body}
 
 -- what is asked of a class, beside that it is a text
 abbrev named : List ℕ → List ℕ → ℕ → Bool
 named R B i = cond (eqb (col R i col_kind) kind_object) (ltb 0 (col R i col_body_size)) (not (is_star (body_of R B i)))
 
--- a text that was judged before
-pub same_text : (B : List ℕ) (begin size b z : ℕ) → begin ≡ b → size ≡ z → valid_text (part B b z) ≡ true → true ≡ valid_text (part B begin size)
-same_text B begin size b z e f h = rw (e, f) (sym h)
-
-pub none-valid : (B : List ℕ) → is_valid B (span 0 0)
+none-valid : (B : List ℕ) → is_valid B (span 0 0)
 unfolding part valid_text follow
 none-valid B = refl
+
+-- nothing is known at first
+pub fresh_valid : (B : List ℕ) (k : Known) → ((k.key.begin ≡ 0) × (k.key.size ≡ 0)) × ((k.body.begin ≡ 0) × (k.body.size ≡ 0)) → Valid B k
+fresh_valid B k ((a, b), (c, d)) = (rw (a, b) (none-valid B), rw (c, d) (none-valid B))
 
 -- the last texts that were judged are texts, behind a row that can be written
 module _ (R B : List ℕ) (i : ℕ) (known : Span) (h : row_writable R B i ≡ true) (valid : is_valid B known) where
@@ -55,15 +49,3 @@ module _ (R B : List ℕ) (i : ℕ) (known : Span) (h : row_writable R B i ≡ t
       by true c e = e
       by false true e = (both (valid_text (body_of R B i)) (named R B i) e).0
       by false false e = valid
-
--- ---- one byte, a star
-
-pub star-long : (s : List ℕ) → length s ≢ 1 → false ≡ is_star s
-star-long [] h = refl
-star-long (b ∷ []) h = absurd (h refl)
-star-long (b ∷ c ∷ s) h = refl
-
-pub star-one : (s : List ℕ) → length s ≡ 1 → eqb (get_or s 0 0) 0x2A ≡ is_star s
-star-one [] h = absurd (omega arith)
-star-one (b ∷ []) h = refl
-star-one (b ∷ c ∷ s) h = absurd (omega arith)

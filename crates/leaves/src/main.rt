@@ -12,351 +12,219 @@
 
 #![tactic(auto)]
 
-use lines::{Tally, Word};
+use lines::Tally;
 use std::io;
-use wire::{Bits, Moment, Part, Put, Read};
+use wire::Part;
+
+// A test of a line gets what stands behind the line's name. It tells whether the answer that stands there is right, or None where a word is missing.
 
 // ---- the words of a line
 
 // Whether `rest` is what stands from `at` to the line's end.
 fn rest_is(line: &[u8], at: usize, rest: &[u8]) -> bool {
-    if line.len() < at {
-        return false;
-    }
-    lines::same(&line[at..], rest)
+    line.get(at..) == Some(rest)
 }
 
 // Whether the last word, at `at`, is the number `n`.
 fn last_is(line: &[u8], at: usize, n: usize) -> bool {
-    let Word::Of(x, end) = lines::number(line, at) else {
-        return false;
-    };
-    x == n && end == line.len()
+    lines::number(line, at) == Some((n, line.len()))
+}
+
+// VALUE NUMBER, or VALUE and the words `otherwise`: what `answer` has for the value.
+fn answer_right<F: Fn(usize) -> Option<usize>>(
+    line: &[u8],
+    otherwise: &[u8],
+    answer: F,
+) -> Option<bool>
+    requires { F.IsAlwaysCallable answer }
+{
+    let (value, p) = lines::number(line, 0)?;
+    Some(match answer(value) {
+        Some(n) => last_is(line, p, n),
+        None => rest_is(line, p, otherwise),
+    })
 }
 
 // ---- numbers on the wire
 
-#[derive(Clone, Copy)]
-enum Form {
-    U29,
-    Be32,
-    Be64,
-}
+// A number that is read, with the place behind it. None: the bytes end too early.
+type Read = Option<(usize, usize)>;
 
-fn read_as(form: Form, src: &[u8], at: usize) -> Read {
-    match form {
-        Form::U29 => wire::read_u29(src, at),
-        Form::Be32 => wire::read_be32(src, at),
-        Form::Be64 => wire::read_be64(src, at),
-    }
-}
-
-fn put_as(form: Form, out: &mut [u8], at: usize, n: usize) -> Put {
-    match form {
-        Form::U29 => wire::put_u29(out, at, n),
-        Form::Be32 => wire::put_be32(out, at, n),
-        Form::Be64 => wire::put_be64(out, at, n),
-    }
-}
-
-// The U29 at `at`, one byte after the other; where it goes astray, an answer that no line has.
-fn by_bytes(src: &[u8], at: usize) -> Read {
+// The U29 at `at`, one byte after the other. None: it goes astray, which no line says.
+fn by_bytes(src: &[u8], at: usize) -> Option<Read> {
     let mut left: usize = 3;
-    let mut n: usize = 0;
-    let mut p = at;
-    while p < src.len() {
-        let part = wire::u29_byte(left, n, src[p]);
-        p += 1;
-        match part {
-            Part::Whole(v) => return Read::Value(v, p),
+    let mut n = 0;
+    for (p, b) in src.iter().enumerate().skip(at) {
+        match wire::u29_byte(left, n, *b)? {
+            Part::Whole(v) => return Some(Some((v, p + 1))),
             Part::More(m) => {
-                if left == 0 {
-                    return Read::Value(0, 0);
-                }
                 n = m;
-                left -= 1;
+                left = left.checked_sub(1)?;
             }
-            Part::Astray => return Read::Value(0, 0),
         }
     }
-    Read::Short
+    Some(None)
 }
 
-// VALUE NEXT, or short
-fn answers(line: &[u8], at: usize, r: Read) -> bool {
-    let Read::Value(n, next) = r else {
-        return rest_is(line, at, b"short\n");
-    };
-    let Word::Of(x, p) = lines::number(line, at) else {
-        return false;
-    };
-    x == n && last_is(line, p, next)
-}
-
-// BYTES AT, and the answer
-fn read_right(form: Form, line: &[u8], from: usize) -> bool {
+// BYTES AT, and then VALUE NEXT or short: what `read` reads.
+fn read_right<F: Fn(&[u8], usize) -> Option<Read>>(line: &[u8], read: F) -> Option<bool>
+    requires { F.IsAlwaysCallable read }
+{
     let mut src = [0u8; 64];
-    let Word::Of(len, p) = lines::bytes(line, from, &mut src) else {
-        return false;
+    let (len, p) = lines::bytes(line, 0, &mut src)?;
+    let (at, q) = lines::number(line, p)?;
+    let Some((n, next)) = read(src.get(..len)?, at)? else {
+        return Some(rest_is(line, q, b"short\n"));
     };
-    let Word::Of(at, q) = lines::number(line, p) else {
-        return false;
-    };
-    if 64 < len {
-        return false;
-    }
-    let s = &src[0..len];
-    if let Form::U29 = form {
-        if !answers(line, q, by_bytes(s, at)) {
-            return false;
-        }
-    }
-    answers(line, q, read_as(form, s, at))
+    let (value, r) = lines::number(line, q)?;
+    Some(value == n && last_is(line, r, next))
 }
 
 // What a room is filled with before something is put there.
 const FILLING: u8 = 0xa5;
 
 fn is_filling(s: &[u8]) -> bool {
-    for b in s {
-        if *b != FILLING {
-            return false;
-        }
-    }
-    true
+    s.iter().all(|b| *b == FILLING)
 }
 
-// Whether `n` is put as `form_bytes` where they just have room, and nothing before them changes.
-fn put_whole(form: Form, n: usize, form_bytes: &[u8]) -> bool {
-    if 10 < form_bytes.len() {
-        return false;
-    }
-    let at = 10 - form_bytes.len();
-    let mut room = [FILLING; 10];
-    let Put::At(next) = put_as(form, &mut room, at, n) else {
-        return false;
-    };
-    next == 10 && is_filling(&room[0..at]) && lines::same(&room[at..], form_bytes)
-}
-
-// Whether `n`, of `len` bytes, is refused where one of them has no room, and nothing changes.
-fn put_refused(form: Form, n: usize, len: usize) -> bool {
-    if 10 < len {
-        return false;
-    }
-    let mut room = [FILLING; 10];
-    let Put::Full = put_as(form, &mut room, 11 - len, n) else {
-        return false;
-    };
-    is_filling(&room)
-}
-
-// VALUE BYTES
-fn put_right(form: Form, line: &[u8], from: usize) -> bool {
-    let Word::Of(n, p) = lines::number(line, from) else {
-        return false;
-    };
-    let mut form_bytes = [0u8; 64];
-    let Word::Of(len, end) = lines::bytes(line, p, &mut form_bytes) else {
-        return false;
-    };
-    if end != line.len() {
-        return false;
-    }
-    if 64 < len {
-        return false;
-    }
-    put_whole(form, n, &form_bytes[0..len]) && put_refused(form, n, len)
+// VALUE BYTES: whether `put` puts the value as these bytes where they just have room, and refuses it where one of them has none. Nothing else changes.
+fn put_right<F: Fn(&mut [u8], usize, usize) -> Option<usize>>(line: &[u8], put: F) -> Option<bool>
+    requires { F.IsAlwaysCallable put }
+{
+    let (n, p) = lines::number(line, 0)?;
+    let mut bytes = [0u8; 64];
+    let (len, end) = lines::bytes(line, p, &mut bytes)?;
+    let form = bytes.get(..len)?;
+    let mut whole = [FILLING; 10];
+    let at = whole.len().checked_sub(len)?;
+    let put_whole = put(&mut whole, at, n) == Some(whole.len());
+    let mut refused = [FILLING; 10];
+    let put_refused = put(&mut refused, at + 1, n).is_none();
+    Some(
+        end == line.len()
+            && put_whole
+            && is_filling(&whole[..at])
+            && &whole[at..] == form
+            && put_refused
+            && is_filling(&refused),
+    )
 }
 
 // ---- signed numbers
 
-// U29 COLUMN
-fn integer_right(line: &[u8], from: usize) -> bool {
-    let Word::Of(n, p) = lines::number(line, from) else {
-        return false;
-    };
-    last_is(line, p, wire::column(wire::integer(n)))
-}
-
-// COLUMN U29, or COLUMN outside
-fn integer_bits_right(line: &[u8], from: usize) -> bool {
-    let Word::Of(column, p) = lines::number(line, from) else {
-        return false;
-    };
-    match wire::integer_bits(wire::of_column(column)) {
-        Bits::Of(n) => last_is(line, p, n),
-        Bits::Outside => rest_is(line, p, b"outside\n"),
-    }
-}
-
 // SIGN MAGNITUDE COLUMN
-fn column_right(line: &[u8], from: usize) -> bool {
-    if line.len() <= from {
-        return false;
-    }
-    let sign = line[from];
-    let Word::Of(magnitude, p) = lines::number(line, lines::behind(line, from + 1)) else {
-        return false;
+fn column_right(line: &[u8]) -> Option<bool> {
+    let sign = *line.first()?;
+    let (magnitude, p) = lines::number(line, lines::behind(line, 1))?;
+    let v = match sign {
+        b'+' => i64::try_from(magnitude).ok()?,
+        b'-' => !i64::try_from(magnitude.checked_sub(1)?).ok()?,
+        _ => return None,
     };
-    if sign == b'+' {
-        return positive_right(line, p, magnitude);
-    }
-    sign == b'-' && negative_right(line, p, magnitude)
-}
-
-fn positive_right(line: &[u8], at: usize, magnitude: usize) -> bool {
-    if 0x7fff_ffff_ffff_ffff < magnitude {
-        return false;
-    }
-    column_is(line, at, magnitude as i64)
-}
-
-fn negative_right(line: &[u8], at: usize, magnitude: usize) -> bool {
-    if magnitude == 0 {
-        return false;
-    }
-    if 0x8000_0000_0000_0000 < magnitude {
-        return false;
-    }
-    let below = (magnitude - 1) as i64;
-    column_is(line, at, !below)
-}
-
-// Whether `v` has the column that stands at `at`, and that column is `v`.
-fn column_is(line: &[u8], at: usize, v: i64) -> bool {
     let column = wire::column(v);
-    wire::of_column(column) == v && last_is(line, at, column)
-}
-
-// ---- dates
-
-// BITS COLUMN, or BITS none
-fn millis_right(line: &[u8], from: usize) -> bool {
-    let Word::Of(bits, p) = lines::number(line, from) else {
-        return false;
-    };
-    match wire::moment_of(bits) {
-        Moment::At(millis) => last_is(line, p, wire::column(millis)),
-        Moment::None => rest_is(line, p, b"none\n"),
-    }
+    Some(wire::of_column(column) == v && last_is(line, p, column))
 }
 
 // ---- texts
 
-// The state after all bytes, one after the other.
-fn stepped(s: &[u8]) -> usize {
-    let mut state = 0;
-    for b in s {
-        state = utf8::step(state, *b);
-    }
-    state
-}
-
 // Whether the text leads to `state` in two pieces, wherever it is cut.
 fn pieces_lead_to(s: &[u8], state: usize) -> bool {
-    for at in 0..s.len() {
-        if utf8::run(utf8::run(0, &s[0..at]), &s[at..]) != state {
-            return false;
-        }
-    }
-    true
+    (0..s.len()).all(|at| utf8::run(utf8::run(0, &s[..at]), &s[at..]) == state)
 }
 
-// valid, cut or broken
-fn text_answers(line: &[u8], at: usize, s: &[u8], state: usize) -> bool {
-    if utf8::valid(s) {
-        return state == 0 && rest_is(line, at, b"valid\n");
-    }
-    if state < 8 {
-        return state != 0 && rest_is(line, at, b"cut\n");
-    }
-    rest_is(line, at, b"broken\n")
-}
-
-// BYTES, and the answer
-fn text_right(line: &[u8], from: usize) -> bool {
+// BYTES, and then valid, cut or broken
+fn text_right(line: &[u8]) -> Option<bool> {
     let mut text = [0u8; 64];
-    let Word::Of(len, p) = lines::bytes(line, from, &mut text) else {
-        return false;
-    };
-    if 64 < len {
-        return false;
-    }
-    let s = &text[0..len];
+    let (len, p) = lines::bytes(line, 0, &mut text)?;
+    let s = text.get(..len)?;
     let state = utf8::run(0, s);
-    stepped(s) == state && pieces_lead_to(s, state) && text_answers(line, p, s, state)
+    let stepped = s.iter().fold(0, |k, b| utf8::step(k, *b));
+    let answer: &[u8] = match state {
+        0 => b"valid\n",
+        1..8 => b"cut\n",
+        _ => b"broken\n",
+    };
+    Some(
+        stepped == state
+            && pieces_lead_to(s, state)
+            && utf8::valid(s) == (state == 0)
+            && rest_is(line, p, answer),
+    )
 }
 
 // ---- the list
 
-#[derive(Clone, Copy)]
-enum Kind {
-    Read(Form),
-    Put(Form),
-    Integer,
-    IntegerBits,
-    Column,
-    Millis,
-    Text,
-}
-
-// Whether a line is right; its words begin at `at`.
-fn right(kind: Kind, line: &[u8], at: usize) -> bool {
-    match kind {
-        Kind::Read(form) => read_right(form, line, at),
-        Kind::Put(form) => put_right(form, line, at),
-        Kind::Integer => integer_right(line, at),
-        Kind::IntegerBits => integer_bits_right(line, at),
-        Kind::Column => column_right(line, at),
-        Kind::Millis => millis_right(line, at),
-        Kind::Text => text_right(line, at),
-    }
-}
-
-// A tally after one line more. Lines of the kind begin with `name`.
-fn counted(t: Tally, kind: Kind, name: &[u8], line: &[u8]) -> Tally {
-    if !lines::begins(line, name) {
-        return lines::passed(t);
-    }
-    lines::tallied(t, right(kind, line, name.len()))
-}
-
-// The tally of one kind of line over the whole text.
-fn count(text: &[u8], kind: Kind, name: &[u8]) -> Tally {
-    let mut t = lines::no_tally();
-    let mut at = 0;
-    while at < text.len() {
-        let end = lines::line_end(text, at);
-        if end <= at {
-            break;
+// The tally of the lines of a text that begin with `name`; `right` tests what stands behind it.
+fn tally<F: Fn(&[u8]) -> Option<bool>>(text: &[u8], name: &[u8], right: F) -> Tally
+    requires { F.IsAlwaysCallable right }
+{
+    let mut t = Tally::default();
+    for line in text.split_inclusive(lines::ends_line) {
+        match line.strip_prefix(name) {
+            Some(words) => t.count(right(words) == Some(true)),
+            None => t.pass(),
         }
-        t = counted(t, kind, name, &text[at..end]);
-        at = end;
     }
     t
 }
 
-fn report<R: Print>(rt: &R, text: &[u8], kind: Kind, name: &[u8]) -> io::Result<()> {
-    lines::report(rt, name, count(text, kind, name))
+fn report<R: Print, F: Fn(&[u8]) -> Option<bool>>(
+    rt: &R,
+    text: &[u8],
+    name: &str,
+    right: F,
+) -> io::Result<()>
+    requires { F.IsAlwaysCallable right }
+{
+    println!(rt; "{name}{}", tally(text, name.as_bytes(), right))
 }
 
 fn report_all<R: Print>(rt: &R, text: &[u8]) -> io::Result<()> {
-    report(rt, text, Kind::Read(Form::U29), b"read_u29 ")?;
-    report(rt, text, Kind::Put(Form::U29), b"put_u29 ")?;
-    report(rt, text, Kind::Integer, b"integer ")?;
-    report(rt, text, Kind::IntegerBits, b"integer_bits ")?;
-    report(rt, text, Kind::Column, b"column ")?;
-    report(rt, text, Kind::Read(Form::Be32), b"read_be32 ")?;
-    report(rt, text, Kind::Put(Form::Be32), b"put_be32 ")?;
-    report(rt, text, Kind::Read(Form::Be64), b"read_be64 ")?;
-    report(rt, text, Kind::Put(Form::Be64), b"put_be64 ")?;
-    report(rt, text, Kind::Millis, b"millis ")?;
-    report(rt, text, Kind::Text, b"text ")
+    report(rt, text, "read_u29 ", |line| {
+        Some(read_right(line, by_bytes)? && read_right(line, |s, at| Some(wire::read_u29(s, at)))?)
+    })?;
+    report(rt, text, "put_u29 ", |line| put_right(line, wire::put_u29))?;
+    report(rt, text, "integer ", |line| {
+        answer_right(line, b"", |n| Some(wire::column(wire::integer(n))))
+    })?;
+    report(rt, text, "integer_bits ", |line| {
+        answer_right(
+            line,
+            b"outside\n",
+            |x| wire::integer_bits(wire::of_column(x)),
+        )
+    })?;
+    report(rt, text, "column ", column_right)?;
+    report(rt, text, "read_be32 ", |line| {
+        read_right(line, |s, at| Some(wire::read_be32(s, at)))
+    })?;
+    report(
+        rt,
+        text,
+        "put_be32 ",
+        |line| put_right(line, wire::put_be32),
+    )?;
+    report(rt, text, "read_be64 ", |line| {
+        read_right(line, |s, at| Some(wire::read_be64(s, at)))
+    })?;
+    report(
+        rt,
+        text,
+        "put_be64 ",
+        |line| put_right(line, wire::put_be64),
+    )?;
+    report(rt, text, "millis ", |line| {
+        answer_right(
+            line,
+            b"none\n",
+            |bits| wire::moment_of(bits).map(wire::column),
+        )
+    })?;
+    report(rt, text, "text ", text_right)
 }
 
 fn main(rt: HostRuntime) -> io::Result<()> {
     let mut text = lines::room();
     let n = lines::load(&rt, b"leaves.txt", &mut text);
-    report_all(&rt, &text[0..n])
+    report_all(&rt, &text[..n])
 }

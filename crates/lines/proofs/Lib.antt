@@ -2,5 +2,3 @@
 pub mod Digits
 pub mod Numbers
 pub mod Fill
-pub mod Equal
-pub mod Ends

@@ -1,9 +1,8 @@
 -- The number at a place, digit by digit in 64 bits.
-use Rattle.std.proofs.Common.{◌≡◌, ℕ, ◌+◌, ◌*◌, ◌%◌, ◌^◌, ◌<◌, ◌≤◌, List, [], ◌∷◌, length, sym, ap, ◌∙◌, mod-lt, mod-eq_of_lt, arith, pow_pos}
+use Rattle.std.proofs.Common.{◌≡◌, ℕ, ◌+◌, ◌*◌, ◌%◌, ◌^◌, ◌<◌, Some, None, List, [], ◌∷◌, length, sym, ap, ◌∙◌, mod-lt, mod-eq_of_lt, arith, pow_pos}
 use lib.Bits.{bit_or}
-use Rattle.lines.specs.declared.Word.TheVariants.{Of, Missing}
-use Rattle.lines.specs.Lines.{digits_at, behind_of, value_of, number_of, number_at}
-use Rattle.lines.proofs.Digits.{shifted}
+use Rattle.lines.specs.Lines.{digit_at, digits_at, behind_of, value_of, number_of, number_at}
+use Rattle.lines.proofs.Digits.{digits_more, digits-end, digit_at-least, shifted}
 
 -- the low bits of a number come from the low bits of what stands before the last digits
 pub value_low : (ds : List ℕ) (n : ℕ) → value_of (n % 2 ^ 64) ds % 2 ^ 64 ≡ value_of n ds % 2 ^ 64
@@ -19,30 +18,32 @@ pub record Counted (line : List ℕ) (at n p : ℕ) : Type 0 where
   pub place : at + length (digits_at line at) ≡ p + length (digits_at line p)
   pub value : value_of 0 (digits_at line at) % 2 ^ 64 ≡ value_of n (digits_at line p) % 2 ^ 64
 
-pub number_more : {line : List ℕ} {at n p d : ℕ} → Counted line at n p → digits_at line p ≡ d ∷ digits_at line (p + 1) → d ≤ 15
+pub number_more : {line : List ℕ} {at n p d : ℕ} → Counted line at n p → Some d ≡ digit_at line p
     → Counted line at (bit_or (n * 2 ^ 4 % 2 ^ 64) d) (p + 1)
 unfolding value_of
-number_more {line} {at} {n} {p} {d} c e t =
-    rw (shifted 60 n d t) record {
+number_more {line} {at} {n} {p} {d} c i =
+    let e : digits_at line p ≡ d ∷ digits_at line (p + 1) = digits_more line p i in
+    rw (shifted 60 n d (digit_at-least line p i)) record {
       low = mod-lt (n * 16 + d) (pow_pos 64);
       place = omega (arith, c.place, ap length e);
       value =
           c.value ∙ ap (λ (ds : List ℕ). value_of n ds % 2 ^ 64) e ∙ sym (value_low (digits_at line (p + 1)) (n * 16 + d));
     }
 
-pub number-missing : (line : List ℕ) (at p : ℕ) → digits_at line p ≡ [] → p ≡ at → Missing ≡ number_at line at
+pub number-missing : (line : List ℕ) (at p : ℕ) → None ≡ digit_at line p → p ≡ at → None ≡ number_at line at
 unfolding number_at number_of
-number-missing line at p e q = let f : digits_at line at ≡ [] = rw (← q) e in rw f
+number-missing line at p i q = let f : digits_at line at ≡ [] = rw (← q) (digits-end line p i) in rw f
 
-some : (ds : List ℕ) (n end : ℕ) → 0 < length ds → n ≡ value_of 0 ds % 2 ^ 64 → Of n end ≡ number_of ds end
+some : (ds : List ℕ) (n end : ℕ) → 0 < length ds → n ≡ value_of 0 ds % 2 ^ 64 → Some (n, end) ≡ number_of ds end
 unfolding number_of
 some [] n end h e = absurd (omega arith)
-some (d ∷ ds) n end h e = ap (λ (x : ℕ). Of x end) e
+some (d ∷ ds) n end h e = ap (λ (x : ℕ). Some (x, end)) e
 
-pub number-whole : {line : List ℕ} {at n p end : ℕ} → Counted line at n p → digits_at line p ≡ [] → (p ≡ at → ⊥)
-    → end ≡ behind_of line p → Of n end ≡ number_at line at
+pub number-whole : {line : List ℕ} {at n p end : ℕ} → Counted line at n p → None ≡ digit_at line p → (p ≡ at → ⊥)
+    → end ≡ behind_of line p → Some (n, end) ≡ number_at line at
 unfolding number_at value_of
-number-whole {line} {at} {n} {p} {end} c e f b =
+number-whole {line} {at} {n} {p} {end} c i f b =
+    let e : digits_at line p ≡ [] = digits-end line p i in
     let q : at + length (digits_at line at) ≡ p = omega (arith, c.place, ap length e) in
     let v : value_of 0 (digits_at line at) % 2 ^ 64 ≡ n =
     c.value ∙ ap (λ (ds : List ℕ). value_of n ds % 2 ^ 64) e ∙ mod-eq_of_lt c.low in

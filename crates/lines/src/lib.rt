@@ -3,51 +3,26 @@
 
 #![tactic(auto)]
 
-ghost use Rattle.std.specs.Prelude.{◌≡◌, ◌≤◌, length};
-ghost use Rattle.lines.specs.Lines.{
-  digit_of,
-  behind_of,
-  number_at,
-  filled,
-  fill_at,
-  equal,
-  line_end,
-  begins_with,
-  no_tally,
-  passed_of,
-  tallied_of,
-};
+ghost use Rattle.std.specs.Prelude.{◌≡◌, ◌≤◌, ◌<◌, Some, IfSome, ◌==◌, length};
+ghost use Rattle.lines.specs.Lines.{digit_at, behind_of, number_at, filled, fill_at, passed_of, tallied_of, text_of};
 
 use std::fmt::Display;
 use std::io::Read;
 use std::rt::Files;
-use std::{fs, io};
+use std::{fmt, fs};
 
 // ---- the words of a line
 
-// A number that stands in a line, with the place behind it and its blank.
-#[derive(Drop)]
-pub enum Word {
-    Of(usize, usize),
-    Missing,
-}
-
-// A byte as a number of 64 bits.
-fn wide(x: u8) -> usize
-    ensures { result ≡ x }
+// The hexadecimal digit at `at`, `0` to `9` or `a` to `f`, if one stands there.
+#[tactic(auto, unfolding(crate::specs::Lines::digit_of, crate::specs::Lines::digit_at))]
+fn digit_at(line: &[u8], at: usize) -> Option<u8>
+    ensures digit { result ≡ digit_at line.now at }
+    ensures within { IfSome result (λ d. at < length line.now) }
 {
-    x as usize
-}
-
-// A hexadecimal digit, or 16 for any other byte.
-#[tactic(auto, unfolding(crate::specs::Lines::digit_of))]
-fn digit(b: u8) -> u8
-    ensures { result ≡ digit_of b }
-{
-    match b {
-        b'0'..=b'9' => b - b'0',
-        b'a'..=b'f' => b - 87,
-        _ => 16,
+    match *line.get(at)? {
+        b @ b'0'..=b'9' => Some(b - b'0'),
+        b @ b'a'..=b'f' => Some(b - b'a' + 10),
+        _ => None,
     }
 }
 
@@ -56,89 +31,56 @@ fn digit(b: u8) -> u8
 pub fn behind(line: &[u8], at: usize) -> usize
     ensures { result ≡ behind_of line.now at }
 {
-    if at < line.len() {
-        return at + 1;
-    }
-    at
+    if at < line.len() { at + 1 } else { at }
 }
 
-// The hexadecimal number at `at`, or its low 64 bits.
-pub fn number(line: &[u8], at: usize) -> Word
+// The hexadecimal number at `at`, or its low 64 bits, with the place behind it and its blank. Counted by hand: where the digits end is told.
+pub fn number(line: &[u8], at: usize) -> Option<(usize, usize)>
     ensures { result ≡ number_at line.now at }
 {
     let mut n: usize = 0;
     let mut p = at;
-    while p < line.len() {
-        let d = digit(line[p]);
-        if 15 < d {
-            break;
-        }
-        n = (n << 4usize) | wide(d);
+    while let Some(d) = digit_at(line, p) {
+        n = (n << 4usize) | usize::from(d);
         p += 1;
     }
     if p == at {
-        return Word::Missing;
+        return None;
     }
-    Word::Of(n, behind(line, p))
+    Some((n, behind(line, p)))
 }
 
-// Puts the bytes that stand at `at`, two digits each, into `out`. The number is how many there are, perhaps none. Where a digit or
-// room is missing, the bytes before it are put all the same.
-pub fn bytes(line: &[u8], at: usize, out: &mut [u8]) -> Word
+// Puts the bytes that stand at `at`, two digits each, into `out`. The answer is how many there are, perhaps none, with the place behind them and their
+// blank. Where a digit or room is missing, the bytes before it are put all the same. Counted by hand: where the
+// digits end is told.
+pub fn bytes(line: &[u8], at: usize, out: &mut [u8]) -> Option<(usize, usize)>
     ensures { filled result out.new ≡ fill_at line.now at out.old }
 {
     let mut n: usize = 0;
     let mut p = at;
-    while p < line.len() {
-        let high = digit(line[p]);
-        if 15 < high {
-            break;
-        }
-        p += 1;
-        if line.len() <= p {
-            return Word::Missing;
-        }
-        let low = digit(line[p]);
-        if 15 < low {
-            return Word::Missing;
-        }
-        p += 1;
+    while let Some(high) = digit_at(line, p) {
+        let low = digit_at(line, p + 1)?;
         if out.len() <= n {
-            return Word::Missing;
+            return None;
         }
         out[n] = (high << 4u8) | low;
         n += 1;
+        p += 2;
     }
-    Word::Of(n, behind(line, p))
-}
-
-// Whether two slices hold the same bytes.
-pub fn same(a: &[u8], b: &[u8]) -> bool
-    ensures { result ≡ equal a.now b.now }
-{
-    if a.len() != b.len() {
-        return false;
-    }
-    let mut i = 0;
-    while i < a.len() {
-        if a[i] != b[i] {
-            return false;
-        }
-        i += 1;
-    }
-    true
+    Some((n, behind(line, p)))
 }
 
 // ---- the lines of a text
 
-// Room for the text of a list.
+// Room for the text of a list: fixed memory, no heap.
 pub fn room() -> [u8; 500000]
     ensures { 500000 ≡ length result }
 {
     [0; 500000]
 }
 
-// Reads from `file` until `text` is full, the file ends or a read fails. The answer is how many bytes were read.
+// Reads from `file` until `text` is full, the file ends or a read fails. The answer is how many bytes were read. They are counted here, since `read_exact`
+// doesn't tell how many came before the end.
 fn read_full<R: Read>(file: &mut R, text: &mut [u8]) -> usize
     ensures { result ≤ length text.old }
 {
@@ -181,85 +123,58 @@ pub fn load<R: Files + Eprint>(rt: &R, path: &[u8], text: &mut [u8]) -> usize
     }
 }
 
-// The place behind the line that goes on at `at`.
-pub fn line_end(text: &[u8], at: usize) -> usize
-    ensures { result ≡ line_end text.now at }
+// Whether a byte ends a line.
+pub fn ends_line(b: &u8) -> bool
+    ensures { result ≡ (b.now == 0x0A) }
 {
-    let mut i = at;
-    while i < text.len() {
-        if text[i] == b'\n' {
-            return i + 1;
-        }
-        i += 1;
-    }
-    text.len()
-}
-
-// Whether a line is of the kind `name`.
-pub fn begins(line: &[u8], name: &[u8]) -> bool
-    ensures { result ≡ begins_with line.now name.now }
-{
-    if line.len() < name.len() {
-        return false;
-    }
-    same(&line[0..name.len()], name)
+    *b == b'\n'
 }
 
 // ---- the tally
 
-// How many lines were read, how many of a kind were right and how many wrong, and the number of the first wrong one.
-#[derive(Drop)]
+// How many lines were read, how many of a kind were right and how many wrong, and the number of the first wrong one. The default: before the first line.
+#[derive(Clone, Copy, Default)]
 pub struct Tally {
     pub lines: u64,
     pub right: u64,
     pub wrong: u64,
-    pub first: u64,
+    pub first: Option<u64>,
 }
 
-// The tally before the first line.
-pub fn no_tally() -> Tally
-    ensures { result ≡ no_tally }
-{
-    Tally {
-        lines: 0,
-        right: 0,
-        wrong: 0,
-        first: 0,
+impl Tally {
+    // Goes on over a line of another kind.
+    pub fn pass(&mut self)
+        ensures { self.new ≡ passed_of self.old }
+    {
+        self.lines = self.lines.wrapping_add(1);
+    }
+
+    // Counts a line of its kind.
+    #[tactic(auto, unfolding(crate::specs::Lines::tallied_of))]
+    pub fn count(&mut self, right: bool)
+        ensures { self.new ≡ tallied_of self.old right }
+    {
+        self.pass();
+        if right {
+            self.right = self.right.wrapping_add(1);
+            return;
+        }
+        if self.wrong == 0 {
+            self.first = Some(self.lines);
+        }
+        self.wrong = self.wrong.wrapping_add(1);
     }
 }
 
-// A tally after a line of another kind.
-pub fn passed(mut t: Tally) -> Tally
-    ensures { result ≡ passed_of t }
-{
-    t.lines = std::num::wrapping_add_u64(t.lines, 1);
-    t
-}
+// How many were right and how many wrong, and if any was wrong the number of the first such line.
+impl Display for Tally {
+    ghost output = { λ t. Some (text_of t) };
 
-// A tally after a line of its kind.
-#[tactic(auto, unfolding(crate::specs::Lines::tallied_of))]
-pub fn tallied(mut t: Tally, right: bool) -> Tally
-    ensures { result ≡ tallied_of t right }
-{
-    t.lines = std::num::wrapping_add_u64(t.lines, 1);
-    if right {
-        t.right = std::num::wrapping_add_u64(t.right, 1);
-        return t;
+    fn fmt<W: fmt::Write>(&self, f: &mut fmt::Formatter<W>) -> fmt::Result {
+        write!(f, "{} right, {} wrong", self.right, self.wrong)?;
+        if let Some(line) = self.first {
+            write!(f, ", the first in line {line}")?;
+        }
+        Ok(())
     }
-    if t.wrong == 0 {
-        t.first = t.lines;
-    }
-    t.wrong = std::num::wrapping_add_u64(t.wrong, 1);
-    t
-}
-
-// Prints a line: `name`, how many were right and how many wrong, and if any was wrong the number of the first such line. It only
-// prints: a contract cannot speak of output.
-pub fn report<R: Print>(rt: &R, name: &[u8], t: Tally) -> io::Result<()> {
-    rt.write_all(name)?;
-    print!(rt; "{} right, {} wrong", t.right, t.wrong)?;
-    if t.wrong != 0 {
-        print!(rt; ", the first in line {}", t.first)?;
-    }
-    println!(rt;)
 }

@@ -1,38 +1,24 @@
--- A loop that spells bytes in hex, by what is left of them, and the digits of a signed column.
-use mathlib.Core.Path.{◌≡◌, ap, sym, ◌∙◌}
-use mathlib.Core.Bool.{true, false}
-use mathlib.Core.List.{List}
-use Prim.Native.Nat.{ℕ, suc, ◌+◌, ◌*◌, ◌-◌, ◌/◌, ◌%◌, ◌^◌, ◌≤◌, ◌<◌}
-use native.Mathlib.Omega.{arith}
-use lib.ListN.{length, get_or, set, drop, drop_of_length-le}
-use lib.Seq.{sets, drop-cons}
-use Rattle.wire.specs.Sign.{of_column}
-use Rattle.wire.proofs.Sign.{signed_low, signed_high}
-use Rattle.listing.specs.Words.{decimal_of}
-use Rattle.listing.specs.Hex.{hex_digit_ascii, hex_of}
+-- What is shown of bytes, byte by byte.
+use Rattle.std.proofs.Common.{◌≡◌, ℕ, ◌+◌, ◌-◌, ◌^◌, ◌/◌, ◌%◌, ◌<◌, ◌≤◌, false, List, [], ◌∷◌, ◌++◌, length, get_or, take, eqb, refl, ap, sym, ◌∙◌, take_all}
+use Rattle.std.proofs.lemmas.List.{take_more}
+use Rattle.std.proofs.lemmas.Fmt.{hex_byte}
+use Rattle.std.specs.Fmt.{digits, padded_integral, format_spec}
+use Rattle.listing.specs.Hex.{hex_of, shown_bytes, hex_digit_ascii}
 
-module _ (whole out s : List ℕ) (i : ℕ) where
-  pub spelled_more : {x y : ℕ} → i < length s → x ≡ hex_digit_ascii (get_or s i 0 / 16) → y ≡ hex_digit_ascii (get_or s i 0 % 16)
-      → whole ≡ sets out (2 * i) (hex_of (drop i s))
-      → whole ≡ sets (set (set out (2 * i) x) (2 * i + 1) y) (2 * (i + 1)) (hex_of (drop (i + 1) s))
-  unfolding hex_of
-  spelled_more h a b e =
-      let p : 2 * i + 1 ≡ suc (2 * i) = omega arith in
-      let q : 2 * (i + 1) ≡ suc (suc (2 * i)) = omega arith in
-      let r : i + 1 ≡ suc i = omega arith in
-      e ∙ ap (λ (l : List ℕ). sets out (2 * i) (hex_of l)) (drop-cons s i 0 h) ∙ rw (q, p, r, a, b)
+-- what the hole `{:02x}` writes of a byte
+pub hex_one : (b : ℕ) → b < 256 → padded_integral (format_spec 32 0 4 2 (2 ^ 64 - 1)) false [] (digits 16 false b) ≡ hex_of (b ∷ [])
+unfolding hex_of
+hex_one b h = hex_byte false b h
 
-  pub spelled_whole : length s ≤ i → whole ≡ sets out (2 * i) (hex_of (drop i s)) → out ≡ whole
-  unfolding hex_of
-  spelled_whole h e = sym (e ∙ ap (λ (l : List ℕ). sets out (2 * i) (hex_of l)) (drop_of_length-le s h))
+hex-append : (s t : List ℕ) → hex_of (s ++ t) ≡ hex_of s ++ hex_of t
+unfolding hex_of
+hex-append [] t = refl
+hex-append (b ∷ s) t = ap (λ (l : List ℕ). hex_digit_ascii (b / 16) ∷ hex_digit_ascii (b % 16) ∷ l) (hex-append s t)
 
--- a column below 2 ^ 63 is its number; another is negative
-pub not-below-zero : (x : ℕ) → x < 2 ^ 63 → record { minus = false; size = x } ≡ decimal_of (of_column x)
-unfolding of_column
-not-below-zero x l = sym (ap decimal_of (signed_low 63 x l))
+-- the digits of the bytes so far, and those of the next
+pub hex_more : (s : List ℕ) (i : ℕ) → i < length s → hex_of (take i s) ++ hex_of (get_or s i 0 ∷ []) ≡ hex_of (take (i + 1) s)
+hex_more s i h = sym (ap hex_of (take_more s i 0 h) ∙ hex-append (take i s) (get_or s i 0 ∷ []))
 
-pub below-zero : (x : ℕ) → 2 ^ 63 ≤ x → x < 2 ^ 64 → record { minus = true; size = 2 ^ 64 - 1 - x + 1 } ≡ decimal_of (of_column x)
-unfolding of_column
-below-zero x l h =
-    let e : 2 ^ 64 - 1 - x + 1 ≡ suc (2 ^ 64 - suc x) = omega arith in
-    rw e (sym (ap decimal_of (signed_high 63 x l h)))
+-- all bytes are shown
+pub hex_all : (s : List ℕ) (i : ℕ) → length s ≤ i → false ≡ eqb (length s) 0 → hex_of (take i s) ≡ shown_bytes s
+hex_all s i h e = rw (take_all i s h, ← e)

@@ -1,58 +1,64 @@
 -- The words of a listing, and what a line has of a row, by its kind.
-use Rattle.std.specs.Prelude.{Bool, true, false, cond, ◌||◌, List, ◌++◌, [] as []ᴸ, ◌∷◌ as ◌∷ᴸ◌, ℕ, suc, leb, ltb, eqb, take, replicate, ℤ, pos, negsuc}
-use Prim.Native.Char.{code}
-use Prim.Native.String.{String, [], ◌∷◌}
-use Rattle.rows.specs.Kinds.{kind_boolean, kind_integer, kind_double, kind_date, kind_byte_array, kind_double_vector, kind_reference}
+use Rattle.std.specs.Prelude.{Bool, cond, ◌||◌, ◌&&◌, Option, Some, None, List, [], ℕ, ◌-◌, ◌^◌, false, leb, eqb, codes}
+use Rattle.std.specs.Fmt.{decimal, signed_decimal, padded_integral, format_spec, digits}
+use denote.Ref.{Bor}
+use Rattle.wire.specs.Sign.{of_column}
+use Rattle.wire.specs.Date.{moment_of}
+use Rattle.rows.specs.Kinds.{kind_undefined, kind_null, kind_boolean, kind_integer, kind_double, kind_string, kind_xml_document, kind_date, kind_array, kind_object, kind_xml, kind_byte_array, kind_int_vector, kind_uint_vector, kind_double_vector, kind_object_vector, kind_dictionary, kind_reference}
+use Rattle.rows.specs.declared.Row.{Row}
 use Rattle.format.specs.RowTest.{has_text}
+use Rattle.listing.specs.Hex.{shown_bytes}
 use Rattle.listing.specs.declared.Value.{Value}
-use Rattle.listing.specs.declared.Value.TheVariants.{Nothing, Body, Plain, Signed, Bits, Millis}
-use Rattle.listing.specs.declared.Decimal.{Decimal}
-
--- the bytes of a text of ASCII
-unfoldable pub ascii : String → List ℕ
-ascii [] = []ᴸ
-ascii (c ∷ s) = code c ∷ᴸ ascii s
-
--- a word, with blanks behind it up to 16 bytes
-unfoldable pub word : String → List ℕ
-word s = take 16 (ascii s ++ replicate 16 32)
-
--- words, one behind the other
-unfoldable pub joined : List String → List ℕ
-joined []ᴸ = []ᴸ
-joined (s ∷ᴸ l) = word s ++ joined l
+use Rattle.listing.specs.declared.Value.TheVariants.{Body, Plain, Signed, Bits, Millis}
 
 -- ---- a row
 
--- the names of the kinds, in the order of their numbers; 0 is no kind
-unfoldable pub kind_names : List String
-kind_names =
-    "unknown" ∷ᴸ "undefined" ∷ᴸ "null" ∷ᴸ "boolean" ∷ᴸ "integer" ∷ᴸ "double" ∷ᴸ "string" ∷ᴸ "xmldocument" ∷ᴸ "date"
-    ∷ᴸ "array" ∷ᴸ "object" ∷ᴸ "xml" ∷ᴸ "bytearray" ∷ᴸ "vector-int" ∷ᴸ "vector-uint" ∷ᴸ "vector-double" ∷ᴸ "vector-object" ∷ᴸ "dictionary" ∷ᴸ "reference" ∷ᴸ []ᴸ
+-- the bytes of a kind's name; any other number is of an unknown kind
+unfoldable pub kind_name : ℕ → List ℕ
+kind_name kind =
+    cond (eqb kind kind_undefined) (codes "undefined")
+    (cond (eqb kind kind_null) (codes "null")
+    (cond (eqb kind kind_boolean) (codes "boolean")
+    (cond (eqb kind kind_integer) (codes "integer")
+    (cond (eqb kind kind_double) (codes "double")
+    (cond (eqb kind kind_string) (codes "string")
+    (cond (eqb kind kind_xml_document) (codes "xmldocument")
+    (cond (eqb kind kind_date) (codes "date")
+    (cond (eqb kind kind_array) (codes "array")
+    (cond (eqb kind kind_object) (codes "object")
+    (cond (eqb kind kind_xml) (codes "xml")
+    (cond (eqb kind kind_byte_array) (codes "bytearray")
+    (cond (eqb kind kind_int_vector) (codes "vector-int")
+    (cond (eqb kind kind_uint_vector) (codes "vector-uint")
+    (cond (eqb kind kind_double_vector) (codes "vector-double")
+    (cond (eqb kind kind_object_vector) (codes "vector-object")
+    (cond (eqb kind kind_dictionary) (codes "dictionary")
+    (cond (eqb kind kind_reference) (codes "reference") (codes "unknown"))))))))))))))))))
 
--- a kind, or 0 for any other number
-unfoldable pub known_kind : ℕ → ℕ
-known_kind kind = cond (leb kind kind_reference) kind 0
+-- what a line has of a row: the number as a signed one, as its 64 bits, in decimal or as a date's milliseconds, or the body
+unfoldable pub value_of : Row → Bor (List ℕ) → Option Value
+value_of r body =
+    cond (eqb r.kind kind_integer) (Some (Signed (of_column r.number)))
+    (cond (eqb r.kind kind_double) (Some (Bits r.number))
+    (cond (eqb r.kind kind_boolean || eqb r.kind kind_reference) (Some (Plain r.number))
+    (cond (eqb r.kind kind_date) (Some (Millis (moment_of r.number)))
+    (cond (has_text r.kind || (leb kind_byte_array r.kind && leb r.kind kind_double_vector)) (Some (Body body)) None))))
 
--- whether a line has the number as a signed one, as its 64 bits in hex, in decimal or as a date's milliseconds, or the body in hex
-unfoldable pub value_of : ℕ → Value
-value_of kind =
-    cond (eqb kind kind_integer) Signed
-    (cond (eqb kind kind_double) Bits
-    (cond (eqb kind kind_boolean) Plain
-    (cond (eqb kind kind_date) Millis
-    (cond (eqb kind kind_reference) Plain
-    (cond (has_text kind) Body
-    (cond (ltb kind kind_byte_array) Nothing
-    (cond (leb kind kind_double_vector) Body Nothing)))))))
-
--- a column's signed number: whether a minus stands before its digits, and the number that these spell
-abbrev pub decimal_of : ℤ → Decimal
-decimal_of (pos n) = record { minus = false; size = n }
-decimal_of (negsuc n) = record { minus = true; size = suc n }
+-- the text of that
+abbrev pub text_of : Value → List ℕ
+text_of (Body s) = shown_bytes s.now
+text_of (Plain n) = decimal n
+text_of (Signed v) = signed_decimal v
+text_of (Bits n) = padded_integral (format_spec 32 0 4 16 (2 ^ 64 - 1)) false [] (digits 16 false n)
+text_of (Millis (Some v)) = signed_decimal v
+text_of (Millis None) = codes "-"
 
 -- ---- a refusal
 
 -- those of a reading that tell a value
 unfoldable pub tells_value : ℕ → Bool
 tells_value number = eqb number 1 || eqb number 3 || eqb number 4 || eqb number 5 || eqb number 7 || eqb number 10
+
+-- what is told: of a date its 64 bits, else a number in decimal
+unfoldable pub told_of : ℕ → ℕ → Option Value
+told_of number told = cond (tells_value number) (Some (cond (eqb number 7) (Bits told) (Plain told))) None

@@ -3,322 +3,145 @@
 
 #![tactic(auto)]
 
-ghost use Rattle.std.specs.Prelude.{◌≡◌, ◌+◌, ◌*◌, ◌≤◌, ◌<◌, min, length};
-ghost use Rattle.std.proofs.lemmas.List.Edits.{sets};
-ghost use Rattle.wire.specs.Sign.{of_column};
-ghost use Rattle.listing.specs.Words.{joined, kind_names, known_kind, value_of, decimal_of, tells_value};
-ghost use Rattle.listing.specs.Hex.{hex_digit_ascii, hex_of};
+ghost use Rattle.std.specs.Prelude.{◌≡◌, Some, ◌∷◌, []};
+ghost use Rattle.std.specs.Fmt.{WritesOnOk};
+ghost use Rattle.listing.specs.Words.{kind_name, value_of, text_of, told_of};
+ghost use Rattle.listing.specs.Hex.{hex_of, shown_bytes};
 
 use format::refusals;
-use rows::kinds;
-use std::io;
-use wire::Moment;
+use rows::{Row, Span, Table, kinds};
+use std::fmt::Display;
+use std::{fmt, io};
 
-// Bytes of a name of a kind, with the blanks behind it.
-const NAME_SIZE: usize = 16;
+// ---- bytes as digits
 
-// ---- what a line has of a row, by its kind
-
-// What a line has of a row's body or number: nothing, the body in hex, or the number in decimal, as a signed one, as its 64 bits in hex, or as a date's
-// milliseconds.
-#[derive(Drop)]
-enum Value {
-    Nothing,
-    Body,
-    Plain,
-    Signed,
-    Bits,
-    Millis,
-}
-
-// The names of the kinds, in the order of their numbers, each with blanks behind it.
-#[tactic(auto, unfolding(crate::specs::Words::joined, crate::specs::Words::kind_names, crate::specs::Words::word, crate::specs::Words::ascii))]
-fn kind_names() -> [u8; 304]
-    ensures { result ≡ joined kind_names }
+// Writes a byte in hex, two digits.
+fn write_byte<W: fmt::Write>(f: &mut fmt::Formatter<W>, b: u8) -> fmt::Result
+    ensures { WritesOnOk W.write_str_gives f.old result (hex_of (b ∷ [])) f.new }
 {
-    *b"unknown         \
-       undefined       \
-       null            \
-       boolean         \
-       integer         \
-       double          \
-       string          \
-       xmldocument     \
-       date            \
-       array           \
-       object          \
-       xml             \
-       bytearray       \
-       vector-int      \
-       vector-uint     \
-       vector-double   \
-       vector-object   \
-       dictionary      \
-       reference       "
-}
-
-// A kind, or 0 for any other number.
-#[tactic(auto, unfolding(crate::specs::Words::known_kind))]
-fn known_kind(kind: usize) -> usize
-    ensures { result ≡ known_kind kind }
-{
-    if kind <= kinds::REFERENCE {
-        return kind;
-    }
-    0
-}
-
-#[tactic(auto, unfolding(crate::specs::Words::value_of))]
-fn value_of(kind: usize) -> Value
-    ensures { result ≡ value_of kind }
-{
-    if kind == kinds::INTEGER {
-        return Value::Signed;
-    }
-    if kind == kinds::DOUBLE {
-        return Value::Bits;
-    }
-    if kind == kinds::BOOLEAN {
-        return Value::Plain;
-    }
-    if kind == kinds::DATE {
-        return Value::Millis;
-    }
-    if kind == kinds::REFERENCE {
-        return Value::Plain;
-    }
-    if text::has_text(kind) {
-        return Value::Body;
-    }
-    if kind < kinds::BYTE_ARRAY {
-        return Value::Nothing;
-    }
-    if kind <= kinds::DOUBLE_VECTOR {
-        return Value::Body;
-    }
-    Value::Nothing
-}
-
-// ---- numbers and bytes as digits
-
-// A signed number: whether a minus stands before its digits, and the number that these spell.
-#[derive(Drop)]
-struct Decimal {
-    minus: bool,
-    size: usize,
-}
-
-// The signed number of a column.
-fn decimal_of(x: usize) -> Decimal
-    ensures { result ≡ decimal_of (of_column x) }
-{
-    if x < 0x8000_0000_0000_0000 {
-        return Decimal {
-            minus: false,
-            size: x,
-        };
-    }
-    Decimal {
-        minus: true,
-        size: 0xffff_ffff_ffff_ffff - x + 1,
-    }
-}
-
-// A digit below 16, in ASCII.
-fn digit(d: u8) -> u8
-    requires { d < 16 }
-    ensures { result ≡ hex_digit_ascii d }
-{
-    if d < 10 {
-        return 48 + d;
-    }
-    87 + d
-}
-
-// Puts the bytes in hex at the start of `out`.
-fn spell(bytes: &[u8], out: &mut [u8])
-    requires { 2 * length bytes.now ≤ length out.old }
-    ensures { out.new ≡ sets out.old 0 (hex_of bytes.now) }
-{
-    let mut i = 0;
-    while i < bytes.len() {
-        let b = bytes[i];
-        out[2 * i] = digit(b / 16);
-        out[2 * i + 1] = digit(b % 16);
-        i += 1;
-    }
-}
-
-// ---- printing
-
-fn print<R: Print>(rt: &R, text: &[u8]) -> io::Result<()> {
-    rt.write_all(text)
-}
-
-fn print_number<R: Print>(rt: &R, n: usize) -> io::Result<()> {
-    print!(rt; "{n}")
-}
-
-// The 64 bits of a number, in 16 digits.
-fn print_bits<R: Print>(rt: &R, n: usize) -> io::Result<()> {
-    print!(rt; "{n:016x}")
-}
-
-fn print_signed<R: Print>(rt: &R, x: usize) -> io::Result<()> {
-    let d = decimal_of(x);
-    if d.minus {
-        print(rt, b"-")?;
-    }
-    print_number(rt, d.size)
-}
-
-// The milliseconds of a date's bits, `-` where there are none.
-fn print_millis<R: Print>(rt: &R, bits: usize) -> io::Result<()> {
-    match wire::moment_of(bits) {
-        Moment::None => print(rt, b"-"),
-        Moment::At(millis) => print_signed(rt, wire::column(millis)),
-    }
-}
-
-// A word without the blanks behind it.
-fn print_word<R: Print>(rt: &R, w: &[u8]) -> io::Result<()> {
-    for (n, b) in w.iter().enumerate() {
-        if *b == b' ' {
-            return print(rt, &w[..n]);
-        }
-    }
-    print(rt, w)
-}
-
-// A number, and what stands before it.
-fn print_named<R: Print>(rt: &R, name: &[u8], n: usize) -> io::Result<()> {
-    print(rt, name)?;
-    print_number(rt, n)
-}
-
-// At most 32 bytes, in hex.
-fn print_few<R: Print>(rt: &R, bytes: &[u8]) -> io::Result<()>
-    requires { length bytes.now ≤ 32 }
-{
-    let mut digits = [0u8; 64];
-    spell(bytes, &mut digits);
-    let n = 2 * bytes.len();
-    print(rt, &digits[..n])
-}
-
-// Where the next few bytes end, of those from `at` on.
-fn few_end(at: usize, len: usize) -> usize
-    requires { at < len }
-    ensures { result ≡ min (at + 32) len }
-{
-    if len - at < 32 {
-        return len;
-    }
-    at + 32
+    write!(f, "{b:02x}")
 }
 
 // Bytes in hex, `-` where there are none.
-fn print_bytes<R: Print>(rt: &R, bytes: &[u8]) -> io::Result<()> {
-    if bytes.len() == 0 {
-        print(rt, b"-")?;
+#[derive(Clone, Copy)]
+struct Hex<'a>(&'a [u8]);
+
+impl Display for Hex<'_> {
+    ghost output = { λ h. Some (shown_bytes h.0.now) };
+
+    fn fmt<W: fmt::Write>(&self, f: &mut fmt::Formatter<W>) -> fmt::Result {
+        if self.0.is_empty() {
+            return f.write_str("-");
+        }
+        for b in self.0 {
+            write_byte(f, *b)?;
+        }
+        Ok(())
     }
-    let mut at = 0;
-    while at < bytes.len() {
-        let end = few_end(at, bytes.len());
-        print_few(rt, &bytes[at..end])?;
-        at = end;
-    }
-    Ok(())
 }
 
-// The part of the store that a span is, and what stands before it.
-fn print_part<R: Print>(
-    rt: &R,
-    name: &[u8],
-    store: &[u8],
-    begin: usize,
-    size: usize,
-) -> io::Result<()> {
-    print(rt, name)?;
-    print_bytes(rt, text::clip(store, begin, size))
+// ---- what a line has of a row, by its kind
+
+// The name of a kind, `unknown` for any other number.
+#[tactic(auto, unfolding(crate::specs::Words::kind_name))]
+fn kind_name(kind: usize) -> &'static str
+    ensures { result.now ≡ kind_name kind }
+{
+    match kind {
+        kinds::UNDEFINED => "undefined",
+        kinds::NULL => "null",
+        kinds::BOOLEAN => "boolean",
+        kinds::INTEGER => "integer",
+        kinds::DOUBLE => "double",
+        kinds::STRING => "string",
+        kinds::XML_DOCUMENT => "xmldocument",
+        kinds::DATE => "date",
+        kinds::ARRAY => "array",
+        kinds::OBJECT => "object",
+        kinds::XML => "xml",
+        kinds::BYTE_ARRAY => "bytearray",
+        kinds::INT_VECTOR => "vector-int",
+        kinds::UINT_VECTOR => "vector-uint",
+        kinds::DOUBLE_VECTOR => "vector-double",
+        kinds::OBJECT_VECTOR => "vector-object",
+        kinds::DICTIONARY => "dictionary",
+        kinds::REFERENCE => "reference",
+        _ => "unknown",
+    }
+}
+
+// What a line has of a row's body or number: the body in hex, or the number in decimal, as a signed one, as its 64 bits in hex, or as a date's milliseconds,
+// if it has some.
+#[derive(Clone, Copy)]
+enum Value<'a> {
+    Body(&'a [u8]),
+    Plain(usize),
+    Signed(i64),
+    Bits(usize),
+    Millis(Option<i64>),
+}
+
+impl Display for Value<'_> {
+    ghost output = { λ v. Some (text_of v) };
+
+    fn fmt<W: fmt::Write>(&self, f: &mut fmt::Formatter<W>) -> fmt::Result {
+        match self {
+            Value::Body(bytes) => write!(f, "{}", Hex(bytes)),
+            Value::Plain(n) => write!(f, "{n}"),
+            Value::Signed(v) | Value::Millis(Some(v)) => write!(f, "{v}"),
+            Value::Bits(n) => write!(f, "{n:016x}"),
+            Value::Millis(None) => f.write_str("-"),
+        }
+    }
+}
+
+// What a line has of a row with this body.
+#[tactic(auto, unfolding(crate::specs::Words::value_of))]
+fn value_of<'a>(r: Row, body: &'a [u8]) -> Option<Value<'a>>
+    ensures { result ≡ value_of r body.entry }
+{
+    match r.kind {
+        kinds::INTEGER => Some(Value::Signed(wire::of_column(r.number))),
+        kinds::DOUBLE => Some(Value::Bits(r.number)),
+        kinds::BOOLEAN | kinds::REFERENCE => Some(Value::Plain(r.number)),
+        kinds::DATE => Some(Value::Millis(wire::moment_of(r.number))),
+        kinds::BYTE_ARRAY..=kinds::DOUBLE_VECTOR => Some(Value::Body(body)),
+        kind => text::has_text(kind).then_some(Value::Body(body)),
+    }
 }
 
 // ---- rows
 
-fn print_kind<R: Print>(rt: &R, kind: usize) -> io::Result<()> {
-    let names = kind_names();
-    let at = NAME_SIZE * known_kind(kind);
-    print_word(rt, text::clip(&names, at, NAME_SIZE))
-}
-
-// [fixed F | weak F]
-fn print_flag<R: Print>(rt: &R, kind: usize, flag: usize) -> io::Result<()> {
-    if kind < kinds::INT_VECTOR {
-        return Ok(());
-    }
-    if kind <= kinds::OBJECT_VECTOR {
-        return print_named(rt, b" fixed ", flag);
-    }
-    if kind == kinds::DICTIONARY {
-        return print_named(rt, b" weak ", flag);
-    }
-    Ok(())
-}
-
-// [assoc A dense D | sealed S dynamic D | entries N]
-fn print_counts<R: Print>(rt: &R, kind: usize, count: usize, count2: usize) -> io::Result<()> {
-    if kind == kinds::ARRAY {
-        print_named(rt, b" assoc ", count)?;
-        print_named(rt, b" dense ", count2)?;
-    }
-    if kind == kinds::OBJECT {
-        print_named(rt, b" sealed ", count)?;
-        print_named(rt, b" dynamic ", count2)?;
-    }
-    if kind < kinds::INT_VECTOR {
-        return Ok(());
-    }
-    if kind <= kinds::DICTIONARY {
-        return print_named(rt, b" entries ", count);
-    }
-    Ok(())
-}
-
-// [BODY | NUMBER]
-fn print_value<R: Print>(rt: &R, kind: usize, number: usize, body: &[u8]) -> io::Result<()> {
-    let value = value_of(kind);
-    if let Value::Nothing = value {
-        return Ok(());
-    }
-    print(rt, b" ")?;
-    match value {
-        Value::Nothing => Ok(()),
-        Value::Body => print_bytes(rt, body),
-        Value::Plain => print_number(rt, number),
-        Value::Signed => print_signed(rt, number),
-        Value::Bits => print_bits(rt, number),
-        Value::Millis => print_millis(rt, number),
-    }
-}
-
 // ROW KIND [key HEX] [fixed F | weak F] [class HEX] [assoc A dense D | sealed S dynamic D | entries N] [BODY | NUMBER] end E
-fn print_row<R: Print>(rt: &R, rows: &[usize], store: &[u8], row: usize) -> io::Result<()> {
-    let r = rows::get_row(rows, row);
-    let body = text::clip(store, r.body.begin, r.body.size);
-    print_number(rt, row)?;
-    print(rt, b" ")?;
-    print_kind(rt, r.kind)?;
+fn print_row<R: Print>(rt: &R, table: Table, row: usize) -> io::Result<()> {
+    let r = rows::get_row(table.rows, row);
+    let body = text::clip(table.store, r.body);
+    print!(rt; "{row} {}", kind_name(r.kind))?;
     if r.key.mark != 0 {
-        print_part(rt, b" key ", store, r.key.begin, r.key.size)?;
+        let key = Span {
+            begin: r.key.begin,
+            size: r.key.size,
+        };
+        print!(rt; " key {}", Hex(text::clip(table.store, key)))?;
     }
-    print_flag(rt, r.kind, r.flag)?;
+    match r.kind {
+        kinds::INT_VECTOR..=kinds::OBJECT_VECTOR => print!(rt; " fixed {}", r.flag)?,
+        kinds::DICTIONARY => print!(rt; " weak {}", r.flag)?,
+        _ => {}
+    }
     if r.class != 0 {
-        print_part(rt, b" class ", store, r.body.begin, r.body.size)?;
+        print!(rt; " class {}", Hex(body))?;
     }
-    print_counts(rt, r.kind, r.count, r.count2)?;
-    print_value(rt, r.kind, r.number, body)?;
-    print_named(rt, b" end ", r.end)?;
-    print(rt, b"\n")
+    match r.kind {
+        kinds::ARRAY => print!(rt; " assoc {} dense {}", r.count, r.count2)?,
+        kinds::OBJECT => print!(rt; " sealed {} dynamic {}", r.count, r.count2)?,
+        kinds::INT_VECTOR..=kinds::DICTIONARY => print!(rt; " entries {}", r.count)?,
+        _ => {}
+    }
+    if let Some(value) = value_of(r, body) {
+        print!(rt; " {value}")?;
+    }
+    println!(rt; " end {}", r.end)
 }
 
 // ---- the listing
@@ -326,61 +149,39 @@ fn print_row<R: Print>(rt: &R, rows: &[usize], store: &[u8], row: usize) -> io::
 // A finished reading: what is used and taken, then the first `n` rows.
 pub fn print_finished<R: Print>(
     rt: &R,
-    rows: &[usize],
-    store: &[u8],
+    table: Table,
     n: usize,
     bytes: usize,
     taken: usize,
 ) -> io::Result<()> {
-    print_named(rt, b"rows ", n)?;
-    print_named(rt, b" bytes ", bytes)?;
-    print_named(rt, b" taken ", taken)?;
-    print(rt, b"\n")?;
+    println!(rt; "rows {n} bytes {bytes} taken {taken}")?;
     for row in 0..n {
-        print_row(rt, rows, store, row)?;
+        print_row(rt, table, row)?;
     }
     Ok(())
 }
 
-// Whether a refusal of a reading tells a value.
-#[tactic(auto, unfolding(crate::specs::Words::tells_value))]
-fn tells_value(number: usize) -> bool
-    ensures { result ≡ tells_value number }
+// What a refusal of a reading tells, if it tells a value.
+#[tactic(auto, unfolding(crate::specs::Words::told_of, crate::specs::Words::tells_value))]
+fn told_of<'a>(no: usize, told: usize) -> Option<Value<'a>>
+    ensures { result ≡ told_of no told }
 {
-    if number == refusals::BAD_LOAN {
-        return true;
+    match no {
+        refusals::BAD_DATE => Some(Value::Bits(told)),
+        refusals::BAD_LOAN
+        | refusals::BAD_MARKER
+        | refusals::NO_ENTRY
+        | refusals::OPEN_OBJECT
+        | refusals::NO_ROOM => Some(Value::Plain(told)),
+        _ => None,
     }
-    if number == refusals::BAD_MARKER {
-        return true;
-    }
-    if number == refusals::NO_ENTRY {
-        return true;
-    }
-    if number == refusals::OPEN_OBJECT {
-        return true;
-    }
-    if number == refusals::BAD_DATE {
-        return true;
-    }
-    number == refusals::NO_ROOM
-}
-
-// [told X]
-fn print_told<R: Print>(rt: &R, no: usize, told: usize) -> io::Result<()> {
-    if no == refusals::BAD_DATE {
-        print(rt, b" told ")?;
-        return print_bits(rt, told);
-    }
-    if tells_value(no) {
-        return print_named(rt, b" told ", told);
-    }
-    Ok(())
 }
 
 // A refused reading: refused NO [told X] place P
 pub fn print_refused<R: Print>(rt: &R, no: usize, told: usize, place: usize) -> io::Result<()> {
-    print_named(rt, b"refused ", no)?;
-    print_told(rt, no, told)?;
-    print_named(rt, b" place ", place)?;
-    print(rt, b"\n")
+    print!(rt; "refused {no}")?;
+    if let Some(value) = told_of(no, told) {
+        print!(rt; " told {value}")?;
+    }
+    println!(rt; " place {place}")
 }

@@ -14,7 +14,7 @@ use Rattle.format.specs.Step.{State, run, begin, end}
 use Rattle.format.specs.Standard.{Tree, encode}
 use Rattle.format.specs.Holds.{Room, of_tree, can_hold}
 use Rattle.format.specs.Numbers.{lent_of}
-use Rattle.format.specs.declared.Lent.{Lent}
+use Rattle.rows.specs.declared.lent.Lent.{Lent}
 use Rattle.format.proofs.Tests.{on_bool, clash}
 use Rattle.format.proofs.Feeding.{feeding}
 use Rattle.format.proofs.Used.{Counts}

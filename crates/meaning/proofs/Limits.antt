@@ -12,7 +12,7 @@ use borrow.Author.Tests.{leb-true, leb-false}
 use Rattle.rows.specs.declared.Cursor.{Cursor}
 use Rattle.rows.specs.Memory.{Memory, zeroed, fault_of, message_limit}
 use Rattle.format.specs.declared.Frame.{Frame}
-use Rattle.format.specs.declared.Lent.{Lent}
+use Rattle.rows.specs.declared.lent.Lent.{Lent}
 use Rattle.format.specs.Step.{Use, Mode, at_marker, at_word, at_number, at_flag, at_text, at_raw, astray, State, wait, over, none, act, step, run, begin, begin_at, end}
 use Rattle.format.specs.Reading.{refused, taken, reading}
 use Rattle.format.specs.Numbers.{lent_of}

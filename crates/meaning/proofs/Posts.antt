@@ -1,4 +1,5 @@
 -- What holds of a reader's result, if it gives one; and for every decision, what is asked for that to hold of what it gives.
+use Rattle.std.proofs.Common.{Option, Some, None}
 use mathlib.Core.Path.{◌≡◌, refl}
 use mathlib.Core.Bool.{Bool, true, false, cond, not}
 use mathlib.Core.List.{List, [], ◌∷◌}
@@ -15,7 +16,7 @@ use Rattle.rows.specs.declared.Trait.{Trait}
 use Rattle.rows.specs.Memory.{Memory, message_limit, span, key_of, span_at, span_used, put, row_used, col_kind, col_body_begin, col_body_size}
 use Rattle.rows.specs.Memory.{col_class_mark, col_flag, col_number, col_count, col_end, col}
 use Rattle.wire.specs.declared.Part.{Part}
-use Rattle.wire.specs.declared.Part.TheVariants.{More, Whole, Astray}
+use Rattle.wire.specs.declared.Part.TheVariants.{More, Whole}
 use Rattle.wire.specs.U29.{part_of}
 use Rattle.wire.specs.Big.{digit_of}
 use Rattle.wire.specs.Date.{refused_date}
@@ -216,11 +217,11 @@ module _ {Q : ℕ → Memory → Cursor → Type 0} (m : Memory) where
   wp_byte c (b ∷ bs) h = on_bool (leb message_limit c.at) (λ e. rw e stops) (λ e. rw e (gets (h b)))
 
 module _ {Q : ℕ → Memory → Cursor → Type 0} (m : Memory) where
-  part_post : (c : Cursor) (bs : List ℕ) (more : ℕ → Reader ℕ) (p : Part) → ((n : ℕ) → Post Q (more n m c bs)) → ((n : ℕ) → Q n m c)
+  part_post : (c : Cursor) (bs : List ℕ) (more : ℕ → Reader ℕ) (p : Option Part) → ((n : ℕ) → Post Q (more n m c bs)) → ((n : ℕ) → Q n m c)
       → Post Q (on_part more p m c bs)
-  part_post c bs more (More n) h k = h n
-  part_post c bs more (Whole n) h k = gets (k n)
-  part_post c bs more Astray h k = stops
+  part_post c bs more (Some (More n)) h k = h n
+  part_post c bs more (Some (Whole n)) h k = gets (k n)
+  part_post c bs more None h k = stops
 
   pub wp_word : (left n : ℕ) (c : Cursor) (bs : List ℕ) → ((w a : ℕ) → Q w m (at_to c a)) → Post Q (u29 left n m c bs)
   unfolding u29

@@ -1,4 +1,6 @@
 -- The numbers, words and texts of a reading, with the room that each takes on the bytes that are written for it.
+use Rattle.std.proofs.Common.{Option, Some, None}
+use Rattle.std.proofs.lemmas.Option.{some_pair_parts}
 use mathlib.Core.Path.{◌≡◌, refl, ap, ◌∙◌}
 use mathlib.Core.Bool.{Bool, true, false, cond}
 use mathlib.Core.List.{List, [], ◌∷◌, append-nil}
@@ -8,8 +10,7 @@ use lib.Dec.{leb, ltb, eqb-suc-zero}
 use lib.ListN.{length}
 use Rattle.rows.specs.declared.Span.{Span}
 use Rattle.wire.specs.declared.Part.{Part}
-use Rattle.wire.specs.declared.Part.TheVariants.{More, Whole, Astray}
-use Rattle.wire.specs.declared.Read.TheVariants.{Value}
+use Rattle.wire.specs.declared.Part.TheVariants.{More, Whole}
 use Rattle.wire.specs.U29 as w
 use Rattle.wire.specs.U29.{rest_of, go_on}
 use Rattle.wire.specs.Big.{digit_of}
@@ -35,22 +36,21 @@ none_left (b ∷ xs) e = absurd (omega arith)
 
 -- the parts of a U29 that ends with these bytes
 module _ (v : ℕ) where
-  whole-goes : (at x : ℕ) (xs : List ℕ) (f : ℕ → Reader ℕ) → Value x (at + 1) ≡ Value v (at + suc (length xs))
-      → Goes (λ (y : ℕ). y ≡ v) (on_part f (Whole x)) xs nothing
+  whole-goes : (at x : ℕ) (xs : List ℕ) (f : ℕ → Reader ℕ) → ◌≡◌ {A = Option (ℕ × ℕ)} (Some (x, at + 1)) (Some (v, at + suc (length xs)))
+      → Goes (λ (y : ℕ). y ≡ v) (on_part f (Some (Whole x))) xs nothing
   whole-goes at x xs f e =
-      let q : at + 1 ≡ at + suc (length xs) = cc in
-      let p : x ≡ v = cc in
+      let (p, q) = some_pair_parts x v (at + 1) (at + suc (length xs)) e in
       rw (none_left xs (omega arith)) (goes-ret p)
 
-  part-goes : (left n b at : ℕ) {x : Part} (xs : List ℕ) (f : ℕ → Reader ℕ) → Step left n b x
-      → ((m : ℕ) → 0 < left → rest_of (left - 1) m xs (at + 1) ≡ Value v (at + 1 + length xs) → Goes (λ (y : ℕ). y ≡ v) (f m) xs nothing)
-      → go_on (λ m. rest_of (left - 1) m xs (at + 1)) (at + 1) x ≡ Value v (at + suc (length xs)) → Goes (λ (y : ℕ). y ≡ v) (on_part f x) xs nothing
+  part-goes : (left n b at : ℕ) {x : Option Part} (xs : List ℕ) (f : ℕ → Reader ℕ) → Step left n b x
+      → ((m : ℕ) → 0 < left → rest_of (left - 1) m xs (at + 1) ≡ Some (v, at + 1 + length xs) → Goes (λ (y : ℕ). y ≡ v) (f m) xs nothing)
+      → go_on (λ m. rest_of (left - 1) m xs (at + 1)) (at + 1) x ≡ Some (v, at + suc (length xs)) → Goes (λ (y : ℕ). y ≡ v) (on_part f x) xs nothing
   part-goes left n b at xs f (astray a) go e = clash cc
   part-goes left n b at xs f (fourth z g) go e = whole-goes at (n * 2 ^ 8 + b) xs f e
   part-goes left n b at xs f (last l h g i) go e = whole-goes at (n * 2 ^ 7 + b) xs f e
-  part-goes left n b at xs f (more l h g i) go e = go (n * 2 ^ 7 + (b - 2 ^ 7)) l (e ∙ ap (Value v) (omega arith))
+  part-goes left n b at xs f (more l h g i) go e = go (n * 2 ^ 7 + (b - 2 ^ 7)) l (e ∙ ap (λ (p : ℕ). Some (v, p)) (omega arith))
 
-  word-goes : (xs : List ℕ) (left n at : ℕ) → rest_of left n xs at ≡ Value v (at + length xs) → Goes (λ (y : ℕ). y ≡ v) (u29 left n) xs nothing
+  word-goes : (xs : List ℕ) (left n at : ℕ) → rest_of left n xs at ≡ Some (v, at + length xs) → Goes (λ (y : ℕ). y ≡ v) (u29 left n) xs nothing
   unfolding rest_of u29
   word-goes [] left n at e = clash cc
   word-goes (b ∷ xs) zero n at e =
@@ -69,14 +69,14 @@ unfolding number digit_of
 goes_number left n [] e = absurd (omega arith)
 goes_number zero n (b ∷ xs) e = goes-free _ (goes-byte b) (λ x p. rw (none_left xs (omega arith)) (part (leb (2 ^ (8 * (7 - 0))) n) (n * 2 ^ 8 + x)))
   where
-    part : (t : Bool) (k : ℕ) → Goes Any (on_part (λ n. by (λ m c. lost)) (cond t Astray (Whole k))) [] nothing
+    part : (t : Bool) (k : ℕ) → Goes Any (on_part (λ n. by (λ m c. lost)) (cond t None (Some (Whole k)))) [] nothing
     part true k = goes-lost
     part false k = goes-ret tt
 goes_number (suc left) n (b ∷ xs) e =
     goes-free _ (goes-byte b) (λ x p. rw (eqb-suc-zero left)
     (part (ltb 7 (suc left)) (leb (2 ^ (8 * (7 - suc left))) n) (n * 2 ^ 8 + x) (goes_number left (n * 2 ^ 8 + x) xs (omega arith))))
   where
-    part : (t u : Bool) (k : ℕ) → Goes Any (number left k) xs nothing → Goes Any (on_part (number left) (cond t Astray (cond u Astray (More k)))) xs nothing
+    part : (t u : Bool) (k : ℕ) → Goes Any (number left k) xs nothing → Goes Any (on_part (number left) (cond t None (cond u None (Some (More k))))) xs nothing
     part true u k h = goes-lost
     part false true k h = goes-lost
     part false false k h = h

@@ -1,4 +1,6 @@
 -- The standard reads a U29 as wire defines it; and what the words that are written say.
+use Rattle.std.proofs.Common.{Option, Some}
+use Rattle.std.proofs.lemmas.Option.{some_pair_parts}
 use mathlib.Core.Path.{◌≡◌, refl, ap, sym, ◌∙◌}
 use mathlib.Core.List.{List, [], ◌∷◌, ◌++◌}
 use Prim.Native.Nat.{ℕ, zero, suc, ◌+◌, ◌*◌, ◌-◌, ◌^◌, ◌/◌, ◌<◌, ◌%◌}
@@ -9,7 +11,6 @@ use lib.Dec.{lit<}
 use lib.ListN.{length, drop}
 use lib.Seq.{drop-append_seam}
 use Rattle.wire.specs.declared.Part.{Part}
-use Rattle.wire.specs.declared.Read.TheVariants.{Value}
 use Rattle.wire.specs.declared.Size.TheVariants.{New}
 use Rattle.wire.specs.declared.Shape.TheVariants.{Inline}
 use Rattle.wire.specs.U29.{rest_of, go_on, u29}
@@ -26,20 +27,18 @@ record Word (at q : ℕ) (g : Std ℕ) (v : ℕ) (bs : List ℕ) : Type 0 where
   place : q ≡ at + size
   reads : (s : Tables) (p : ℕ) → g s p bs ≡ ok v s (p + size) (drop size bs)
 
-word_byte : (left n b at v q : ℕ) (bs : List ℕ) {x : Part} → Step left n b x
-    → ((m : ℕ) → rest_of (left - 1) m bs (at + 1) ≡ Value v q → Word (at + 1) q (word (left - 1) m) v bs)
-    → go_on (λ m. rest_of (left - 1) m bs (at + 1)) (at + 1) x ≡ Value v q → Word at q (word left n) v (b ∷ bs)
+word_byte : (left n b at v q : ℕ) (bs : List ℕ) {x : Option Part} → Step left n b x
+    → ((m : ℕ) → rest_of (left - 1) m bs (at + 1) ≡ Some (v, q) → Word (at + 1) q (word (left - 1) m) v bs)
+    → go_on (λ m. rest_of (left - 1) m bs (at + 1)) (at + 1) x ≡ Some (v, q) → Word at q (word left n) v (b ∷ bs)
 unfolding word byte
 word_byte left n b at v q bs (astray a) go e = clash cc
 word_byte zero n b at v q bs (fourth z f) go e =
-    let w : n * 2 ^ 8 + b ≡ v = cc in
-    let r : at + 1 ≡ q = cc in
+    let (w, r) = some_pair_parts (n * 2 ^ 8 + b) v (at + 1) q e in
     record { size = 1; place = sym r; reads = λ s p. rw (w, add-one p) }
 word_byte (suc left) n b at v q bs (fourth z f) go e = absurd (omega arith)
 word_byte zero n b at v q bs (last l h f g) go e = absurd (omega arith)
 word_byte (suc left) n b at v q bs (last l h f g) go e =
-    let w : n * 2 ^ 7 + b ≡ v = cc in
-    let r : at + 1 ≡ q = cc in
+    let (w, r) = some_pair_parts (n * 2 ^ 7 + b) v (at + 1) q e in
     record { size = 1; place = sym r; reads = λ s p. rw (lt-ltb b (2 ^ 7) g, w, add-one p) }
 word_byte zero n b at v q bs (more l h f g) go e = absurd (omega arith)
 word_byte (suc left) n b at v q bs (more l h f g) go e =
@@ -51,7 +50,7 @@ word_byte (suc left) n b at v q bs (more l h f g) go e =
       reads = λ s p. rw (le-ltb b (2 ^ 7) g) (w.reads s (suc p) ∙ ap (λ (k : ℕ). ok v s k (drop w.size bs)) (omega arith));
     }
 
-word-rest : (bs : List ℕ) (left n at v q : ℕ) → rest_of left n bs at ≡ Value v q → Word at q (word left n) v bs
+word-rest : (bs : List ℕ) (left n at v q : ℕ) → rest_of left n bs at ≡ Some (v, q) → Word at q (word left n) v bs
 unfolding rest_of
 word-rest [] left n at v q e = clash cc
 word-rest (b ∷ bs) left n at v q e = word_byte left n b at v q bs (step left n b) (λ m. word-rest bs (left - 1) m (at + 1) v q) e

@@ -14,7 +14,7 @@ use Rattle.format.specs.Standard.{Tree, encode}
 use Rattle.format.specs.Unfold.{unfolded}
 use Rattle.format.specs.RowTest.{Tested, fine, faulty, tested}
 use Rattle.format.specs.Writing.{stream_bytes, is_deep, emit, Wrote, written, unwritten, settle, after_test, after_fault, writing}
-use Rattle.format.specs.declared.Written.TheVariants.{Bytes as Written}
+use Rattle.std.specs.Prelude.{Ok}
 use Rattle.format.specs.Answers.{output, written_of, write_call}
 use Rattle.format.proofs.Tests.{clash}
 use Rattle.meaning.proofs.Parts.{depth}
@@ -109,11 +109,11 @@ module _ (R B out : List ℕ) where
 
 module _ (R B out P : List ℕ) where
   -- what the call accepts, the writing does
-  pub call-wrote : (n : ℕ) → write_call R B out ≡ output (Written n) P → writing R B out ≡ written n P
+  pub call-wrote : (n : ℕ) → write_call R B out ≡ output (Ok n) P → writing R B out ≡ written n P
   unfolding write_call
   call-wrote n e = of (writing R B out) e
     where
-      of : (w : Wrote) → written_of w ≡ output (Written n) P → w ≡ written n P
+      of : (w : Wrote) → written_of w ≡ output (Ok n) P → w ≡ written n P
       of (written k Q) e = cc
       of (unwritten i t p Q) e = clash cc
 

@@ -1,3 +1,3 @@
-pub mod Regrouped
+pub mod Flags
+pub mod Names
 pub mod Shapes
-pub mod Bounds

@@ -11,7 +11,7 @@ use borrow.Author.Tests.{eqb-true}
 use Rattle.rows.specs.declared.Cursor.{Cursor}
 use Rattle.rows.specs.Memory.{Memory, fault_of, message_limit, open_limit}
 use Rattle.format.specs.declared.Head.{Head}
-use Rattle.format.specs.declared.Lent.{Lent}
+use Rattle.rows.specs.declared.lent.Lent.{Lent}
 use Rattle.format.specs.declared.Work.{Work}
 use Rattle.format.specs.Reading.{finished, refused}
 use Rattle.format.specs.Step.{State, wait, over, none, broken}
@@ -23,9 +23,7 @@ use Rattle.format.proofs.States.{Shown, state-numbered, mode-of, length-laid, fr
 use Rattle.format.proofs.Along.{Good, waits, finishes, declines, good-step}
 use Rattle.format.proofs.Shows.{good-sound, good-shown, sound-pairs}
 use Rattle.format.proofs.Pieces.{run-still, taken-still}
-use Rattle.resume.specs.declared.Next.{Next}
-use Rattle.resume.specs.declared.Next.TheVariants.{Wait, Finished, Refused}
-use Rattle.resume.specs.Steps.{After, after, after_of, settled}
+use Rattle.resume.specs.Steps.{Turn, Wait, Finished, Refused, After, after, after_of, settled}
 use Rattle.pieces.specs.States.{numbers, state_after, held_of, cost_of, Ready, Nearly}
 use Rattle.states.specs.Ends.{has_ended}
 use Rattle.pieces.proofs.Steps.{goes, byte-held}
@@ -34,10 +32,10 @@ use Rattle.format.specs.Refusals as refusals
 
 -- ---- the answer, and the state that it tells
 
-abbrev next_in : After → Next
+abbrev next_in : After → Turn
 next_in (after a F m) = a
 
-settles : (a : Next) (F : List ℕ) (m : Memory) → next_in (settled (after a F m)) ≡ a
+settles : (a : Turn) (F : List ℕ) (m : Memory) → next_in (settled (after a F m)) ≡ a
 unfolding settled
 settles (Wait w c d) F m = refl
 settles (Finished c) F m = refl
@@ -135,7 +133,7 @@ module _ (b : ℕ) (octet : b < 2 ^ 8) (h : Head) (F : List ℕ) (m : Memory) wh
         by false false true e = clash cc
         by false false false e = refl
 
-    module _ (a : Next) (F' : List ℕ) (m' : Memory) (told : settled (after a F' m') ≡ after_of F (state_after b h F m)) where
+    module _ (a : Turn) (F' : List ℕ) (m' : Memory) (told : settled (after a F' m') ≡ after_of F (state_after b h F m)) where
       abbrev leaves : Held
       leaves = held_of h.lent (settled (after a F' m'))
 

@@ -15,7 +15,7 @@ use Rattle.rows.specs.Memory.{Memory, memory, message_limit, put, row_used, col_
 use Rattle.utf8.specs.States.{step_of, fold_of}
 use Rattle.wire.specs.Put.{with1}
 use Rattle.format.specs.declared.Head.{Head}
-use Rattle.format.specs.declared.Lent.{Lent}
+use Rattle.rows.specs.declared.lent.Lent.{Lent}
 use Rattle.format.specs.declared.Work.{Work}
 use Rattle.format.specs.Decide.{Out, stop, give, width_of, grown}
 use Rattle.format.specs.Reading.{taken}
@@ -23,7 +23,7 @@ use Rattle.format.specs.Step.{assoc, dynamics, for_string, for_key, for_class, f
 use Rattle.format.specs.Step.{Raw, byte_array, raw_vector, raw_row, Mode, at_text, at_raw, wait, step, act, filling, raw_grown}
 use Rattle.format.specs.Numbers.{Held, held, work, mode_of, use_work, work_of, frames_of, lent_of, sound, pairs_fit, depth_fits, frames_size}
 use Rattle.format.specs.Answers.{run_held, taken_by}
-use Rattle.format.proofs.Tests.{on_bool}
+use Rattle.format.proofs.Tests.{on_bool, clash}
 use Rattle.format.proofs.States.{mode-of}
 use Rattle.format.proofs.Used.{ModeIn, Counts}
 use Rattle.format.proofs.Shows.{good-sound, good-waits}
@@ -31,16 +31,24 @@ use Rattle.wire.proofs.Octets.{Bytes}
 use Rattle.states.specs.Ends.{has_ended}
 use Rattle.format.proofs.Stores.{place, stored_there}
 use Rattle.decide.specs.Outcomes.{leaving}
-use Rattle.resume.specs.declared.Next.TheVariants.{Wait}
-use Rattle.resume.specs.Steps.{after, after_of, settled, grown_by}
+use Rattle.resume.specs.Steps.{loans_of, Same, Decides, decided, grown_by, Turn, Wait, after, after_of, settled}
 use Rattle.states.specs.Purposes.{IsRaw}
-use Rattle.resume.proofs.Settled as answer
+use Rattle.states.proofs.Frames.{length-frames, laid-frames}
 use Rattle.states.proofs.Purposes.{between, purposed, text_of, raw_of}
 use Rattle.states.proofs.Modes.{mode-text, mode-raw, fits-text, fits-raw, no_mode}
-use Rattle.pieces.specs.States.{head_of, state_after, waiting, Ready, work_past, rows_past, rows_after}
-use Rattle.pieces.proofs.Steps.{further, stepped-on, deep-enough}
+use Rattle.std.specs.Prelude.{Result, Ok, Err}
+use Rattle.format.specs.declared.Refusal.{Refusal}
+use Rattle.resume.specs.declared.Feeding.{Feeding}
+use Rattle.resume.proofs.Moves.{both_same}
+use Rattle.pieces.specs.States.{Filled, further, count_by, head_of, state_after, waiting, Ready, work_past, rows_past, rows_after}
+use Rattle.pieces.proofs.Steps.{stepped-on, deep-enough}
 use Rattle.pieces.proofs.Bytes.{nearly_ready, pairs_hold, runs-byte, takes-byte, is-ready}
 use Rattle.format.specs.Codes.{mode_text, mode_raw}
+
+-- a state that waits over its own frames
+waits_so : (F : List ℕ) (depth : ℕ) (c : Cursor) (m : Memory) (x : Mode) → settled (after (Wait (work_of x) c depth) F m) ≡ after_of F (wait x (frames_of F depth) c m)
+unfolding settled after_of
+waits_so F depth c m x = rw (laid-frames F depth, length-frames F depth)
 
 -- ---- a work that goes on
 
@@ -78,10 +86,10 @@ module _ (w : Work) (raw : IsRaw w.purpose) where
   row_of = between (λ p. raw_row (raw_of p w.row) ≡ w.row) 6 3 (refl, (refl, (refl, tt))) w.purpose (omega arith) (omega arith)
 
   rows_grew : (n : ℕ) (R : List ℕ) (c : Cursor) → row_used R c w.row ≡ true
-      → rows_after R (grown_by (going w n w.part) R c) ≡ grew (raw_of w.purpose w.row) w.span n R
+      → rows_after R (count_by (going w n w.part) R c) ≡ grew (raw_of w.purpose w.row) w.span n R
   unfolding grown
   rows_grew n R c u =
-      between (λ p. rows_after R (grown_by (going (purposed w p) n w.part) R c) ≡ grew (raw_of p w.row) w.span n R) 6 3
+      between (λ p. rows_after R (count_by (going (purposed w p) n w.part) R c) ≡ grew (raw_of p w.row) w.span n R) 6 3
       (refl, (rw u, (rw u, tt))) w.purpose (omega arith) (omega arith)
 
 -- ---- bytes, one after another
@@ -117,7 +125,7 @@ module _ (depth : ℕ) (F T O U N : List ℕ) (room : length F ≡ frames_size) 
     told =
         let sounds : true ≡ sound l (mode_of (work_of x)) (frames_of F depth) c (loans R B) = rw (← s.1) (sym s.0.0) in
         stepped-on b hd F (loans R B) refl true sounds _ refl
-        (answer.waits F depth (taken c) (loans R' B') (work_of x') x' refl ∙ ap (after_of F) (rw (mode-of x) (sym acts)))
+        (waits_so F depth (taken c) (loans R' B') x' ∙ ap (after_of F) (rw (mode-of x) (sym acts)))
 
     stands-next : Stands (work_of x') (taken c) R' B'
     stands-next =
@@ -261,15 +269,20 @@ module _ (depth : ℕ) (F T O U N : List ℕ) (room : length F ≡ frames_size) 
         (λ e. let (k, ((i, (sp, low)), _)) = used w _ c R B (is-text (eqb-true w.mode 5 e)) s in (omega arith, low))
         (λ e. let (k, (i, (sp, low))) = used w _ c R B (raw-mode (eqb-false w.mode 5 e)) s in (omega arith, low))
 
+    -- its row is used
+    pub raw_used : (w.mode ≡ mode_text → ⊥) → row_used R c w.row ≡ true
+    unfolding lent_of
+    raw_used n =
+        let (counts, (i, (sp, low))) = used w _ c R B (raw-mode n) s in
+        let row : w.row < c.rows = rw (row_of w (is-raw n)) at i in
+        rw (lt-ltb w.row c.rows row, le-leb c.rows (length R / row_width) (omega arith))
+
     -- the count of a vector follows the last byte
     rows-past : (w.mode ≡ mode_text → ⊥) → (k : ℕ) → k < w.left → grew (raw_of w.purpose w.row) w.span (w.left - k) R ≡ rows_past w c (suc k) R
     unfolding lent_of
     rows-past n k h =
-        let (counts, (i, (sp, low))) = used w _ c R B (raw-mode n) s in
-        let row : w.row < c.rows = rw (row_of w (is-raw n)) at i in
-        let u : row_used R c w.row ≡ true = rw (lt-ltb w.row c.rows row, le-leb c.rows (length R / row_width) (omega arith)) in
         let e : w.left - suc k + 1 ≡ w.left - k = omega arith in
-        rw (ne_eqb w.mode mode_text n, e) (sym (rows_grew w (is-raw n) (w.left - k) R c u))
+        rw (ne_eqb w.mode mode_text n, e) (sym (rows_grew w (is-raw n) (w.left - k) R c (raw_used n)))
 
     module _ (b : ℕ) (bs : List ℕ) (octets : Bytes (b ∷ bs)) (w' : Work) (R' B' : List ℕ) (most : suc (length bs) ≤ w.left) (fits : c.at + suc (length bs) ≤ message_limit)
         (eB : B' ≡ sets B (w.span.begin + (w.span.size - (w.left + 1))) (b ∷ bs)) (ew : w' ≡ work_past w (suc (length bs)) (b ∷ bs))
@@ -309,15 +322,60 @@ module _ (depth : ℕ) (F T O U N : List ℕ) (room : length F ≡ frames_size) 
     past (b ∷ bs) o k w' R' B' e some most fits eB ew eR =
         rw (← e) (past-some b bs o w' R' B' (omega arith) (omega arith) eB (rw (← e) at ew) (rw (← e) at eR))
 
--- ---- what `fill` does to the work and the rows
+-- ---- what `fill` does
 
-pub fills-text : (w : Work) (k part : ℕ) (bs : List ℕ) → w.mode ≡ mode_text → part ≡ fold_of w.part bs → going w (w.left - k) part ≡ work_past w k bs
-fills-text w k part bs e p = rw (p, eq-eqb w.mode mode_text e)
+-- the bytes are copied, and the cursor is past them
+pub record Copied (f f' : Feeding) (w : Work) (bs : List ℕ) : Type 0 where
+  pub loans :
+      loans_of f'
+      ≡ memory f.rows.now (sets f.store.now (w.span.begin + (w.span.size - (w.left + 1))) bs) f.strings.now f.objects.now f.traits.now f.names.now
+  pub cursor : f'.cursor ≡ further f.cursor (f.cursor.at + length bs)
+  pub depth : f'.depth ≡ f.depth
+  pub frames : f'.frames.now ≡ f.frames.now
+  pub same : Same f f'
 
-pub fills-raw : (w : Work) (c : Cursor) (k : ℕ) (R R' : List ℕ) (o : Out Unit Unit) → (w.mode ≡ mode_text → ⊥)
-    → with1 o R' ≡ leaving R (grown_by (going w (w.left - k + 1) w.part) R c) → R' ≡ rows_past w c k R
-fills-raw w c k R R' o n e = rw (ne_eqb w.mode mode_text n) (left (grown_by (going w (w.left - k + 1) w.part) R c) e)
-  where
-    left : (x : Out (List ℕ) Unit) → with1 o R' ≡ leaving R x → R' ≡ rows_after R x
-    left (stop number told place) q = cc
-    left (give a S d) q = cc
+module _ {f f' : Feeding} {w : Work} {bs : List ℕ} (K : Copied f f' w bs) where
+  pub fills-text : w.mode ≡ mode_text → Filled f f' w bs
+  fills-text e = record { loans = rw e K.loans; cursor = K.cursor; depth = K.depth; frames = K.frames; same = K.same }
+
+  -- a vector's row is used, so that its count is put
+  abbrev last : Work
+  last = going w (w.left - length bs + 1) w.part
+
+  counts : IsRaw w.purpose → (m : Memory) (c : Cursor) → row_used m.rows c w.row ≡ true
+      → grown_by last m c ≡ give tt (memory (rows_after m.rows (count_by last m.rows c)) m.store m.strings m.objects m.traits m.names) c
+  unfolding grown
+  counts raw m c u =
+      between
+      (λ p. grown_by (purposed last p) m c ≡ give tt (memory (rows_after m.rows (count_by (purposed last p) m.rows c)) m.store m.strings m.objects m.traits m.names) c)
+      6 3 (refl, (rw u, (rw u, tt))) w.purpose (omega arith) (omega arith)
+
+  counts-further : IsRaw w.purpose → (R : List ℕ) (c : Cursor) (n : ℕ) → row_used R c w.row ≡ true
+      → rows_after R (count_by last R (further c n)) ≡ rows_after R (count_by last R c)
+  unfolding grown
+  counts-further raw R c n u =
+      between (λ p. rows_after R (count_by (purposed last p) R (further c n)) ≡ rows_after R (count_by (purposed last p) R c)) 6 3
+      (refl, (rw u, (rw u, tt))) w.purpose (omega arith) (omega arith)
+
+  gave_so : (x : Result Unit Refusal) (g : Feeding) (m : Memory) (c : Cursor) → decided x g ≡ give tt m c → (loans_of g ≡ m) × (g.cursor ≡ c)
+  gave_so (Ok u) g m c e = (cc, cc)
+  gave_so (Err r) g m c e = clash cc
+
+  pub fills-raw : {x : Result Unit Refusal} {g : Feeding} → (w.mode ≡ mode_text → ⊥) → IsRaw w.purpose × (row_used f.rows.now f.cursor w.row ≡ true)
+      → Decides x f' g (grown_by last) → Filled f g w bs
+  fills-raw {x} {g} n (raw, u) D =
+      let r : f'.rows.now ≡ f.rows.now = ap (λ (m : Memory). m.rows) K.loans in
+      let u' : row_used f'.rows.now f'.cursor w.row ≡ true = rw (r, K.cursor) u in
+      let p = gave_so x g _ _ (D.gave ∙ counts raw (loans_of f') f'.cursor u') in
+      record {
+        loans =
+            p.0
+            ∙ rw (ne_eqb w.mode mode_text n, K.cursor)
+            (ap (λ (m : Memory). memory (rows_after m.rows (count_by last m.rows (further f.cursor (f.cursor.at + length bs)))) m.store m.strings m.objects m.traits m.names) K.loans
+            ∙ ap (λ R. memory R (sets f.store.now (w.span.begin + (w.span.size - (w.left + 1))) bs) f.strings.now f.objects.now f.traits.now f.names.now)
+            (counts-further raw f.rows.now f.cursor (f.cursor.at + length bs) u));
+        cursor = p.1 ∙ K.cursor;
+        depth = D.inside.depth ∙ K.depth;
+        frames = D.inside.frames ∙ K.frames;
+        same = both_same f f' g K.same D.inside.same;
+      }

@@ -1,5 +1,6 @@
 -- A byte leaves a state that waits or has ended, never one that was not begun.
 use mathlib.Core.Bool.{Bool}
+use Rattle.std.specs.Prelude.{Option, Some, None}
 use mathlib.Core.List.{List, [], ◌∷◌}
 use Prim.Native.Nat.{ℕ, zero, suc, ◌+◌, ◌*◌, ◌-◌}
 use lib.Dec.{eqb}
@@ -9,7 +10,7 @@ use Rattle.rows.specs.declared.Span.{Span}
 use Rattle.rows.specs.declared.Trait.{Trait}
 use Rattle.rows.specs.Memory.{Memory, open_limit, col_count, col_count2, no_span}
 use Rattle.wire.specs.declared.Part.{Part}
-use Rattle.wire.specs.declared.Part.TheVariants.{More, Whole, Astray}
+use Rattle.wire.specs.declared.Part.TheVariants.{More, Whole}
 use Rattle.wire.specs.declared.Size.{Size}
 use Rattle.wire.specs.declared.Size.TheVariants.{Old, New}
 use Rattle.wire.specs.declared.Shape.{Shape}
@@ -199,10 +200,10 @@ module _ (ts : List Frame) where
   begun-going row object c m = tt
   begun-going row (sized b) c m = tt
 
-  part-going : (p : Part) (m : Memory) (more whole : ℕ → State) → ((n : ℕ) → Going (more n)) → ((n : ℕ) → Going (whole n)) → Going (on_part p m more whole)
-  part-going Astray m more whole f g = tt
-  part-going (More n) m more whole f g = f n
-  part-going (Whole n) m more whole f g = g n
+  part-going : (p : Option Part) (m : Memory) (more whole : ℕ → State) → ((n : ℕ) → Going (more n)) → ((n : ℕ) → Going (whole n)) → Going (on_part p m more whole)
+  part-going None m more whole f g = tt
+  part-going (Some (More n)) m more whole f g = f n
+  part-going (Some (Whole n)) m more whole f g = g n
 
   pub act-going : (x : Mode) (b : ℕ) (c : Cursor) (m : Memory) → Going (act x b ts c m)
   unfolding act

@@ -8,7 +8,9 @@ use lib.Dec.{leb, eqb}
 use lib.ListN.{length}
 use borrow.Author.Tests.{eq-eqb, ne_eqb, le-leb, lt-leb}
 use Rattle.rows.specs.declared.Cursor.{Cursor}
-use Rattle.rows.specs.Memory.{Memory, cursor, fault_of, message_limit}
+use Rattle.std.specs.Prelude.{Result, Ok, Err}
+use Rattle.std.specs.Result.{is_err}
+use Rattle.rows.specs.Memory.{Memory, fault_of, message_limit, zeroed}
 use Rattle.format.specs.declared.Head.{Head}
 use Rattle.format.specs.declared.Frame.{Frame}
 use Rattle.format.specs.Reading.{finished, refused, refusal, taken}
@@ -16,12 +18,12 @@ use Rattle.format.specs.Step.{Mode, State, wait, over, none, broken, act, step}
 use Rattle.format.specs.Numbers.{held, byte_step, stepped, state_of, after_step, numbers_of, mode_of, frames_of, sound, sound_step, depth_fits}
 use Rattle.format.specs.Numbers.{same_lent, lent_of, counts_fit, mode_fits, pairs_fit, finishable}
 use Rattle.format.proofs.Tests.{clash, both}
-use Rattle.decide.specs.declared.Refusal.{Refusal}
+use Rattle.format.specs.declared.Refusal.{Refusal}
 use Rattle.resume.specs.declared.Next.{Next}
-use Rattle.resume.specs.declared.Next.TheVariants.{Refused}
-use Rattle.resume.specs.Steps.{After, after, after_of, settled, refusal_of}
+use Rattle.resume.specs.declared.Next.TheVariants as next
+use Rattle.resume.specs.Steps.{turn_of, Turn, Refused, After, after, after_of, settled, refusal_of}
 use Rattle.states.proofs.Frames.{length-frames}
-use Rattle.pieces.specs.States.{numbers, state_after, head_of, held_of}
+use Rattle.pieces.specs.States.{numbers, state_after, head_of, held_of, further}
 use Rattle.states.specs.Ends.{has_ended}
 use Rattle.pieces.proofs.Going.{Going, act-going}
 use Rattle.format.specs.Codes.{status_waiting, status_finished, status_refused}
@@ -79,7 +81,7 @@ module _ (b : ℕ) (h : Head) (F : List ℕ) (m : Memory) where
   pub byte-held : (x : After) → has_ended h ≡ false → x ≡ after_of F (state_after b h F m) → held_of h.lent x ≡ byte_step b (held (numbers h F) m)
   byte-held x n p = ap (held_of h.lent) p ∙ told-alike (state_after b h F m) after-going ∙ sym (goes n)
 
-  pub goes_on : (F' : List ℕ) (m' m'' : Memory) (a : Next) (h' : Head) → has_ended h ≡ false → settled (after a F' m') ≡ after_of F (state_after b h F m)
+  pub goes_on : (F' : List ℕ) (m' m'' : Memory) (a : Turn) (h' : Head) → has_ended h ≡ false → settled (after a F' m') ≡ after_of F (state_after b h F m)
       → after a F' m'' ≡ settled (after a F' m') → h' ≡ head_of h.lent a → held (numbers h' F') m'' ≡ byte_step b (held (numbers h F) m)
   goes_on F' m' m'' a h' n p q r = ap (λ (k : Head). held (numbers k F') m'') r ∙ byte-held (after a F' m'') n (q ∙ p)
 
@@ -114,17 +116,27 @@ module _ (b : ℕ) (h : Head) (F : List ℕ) (m : Memory) where
 
 -- ---- a byte of a state that waits
 
--- the cursor at another place
-abbrev pub further : Cursor → ℕ → Cursor
-further c n = cursor n c.rows c.store c.strings c.objects c.traits c.names
-
-module _ (b : ℕ) (x : Mode) (ts : List Frame) (c : Cursor) (F : List ℕ) (m : Memory) where
-  pub too_long_lem : (r : Refusal) → r ≡ refusal_of refusals.too_long 0 c.at → message_most ≤ c.at → settled (after (Refused r) F m) ≡ after_of F (step b (wait x ts c m))
-  unfolding step message_limit settled after_of
-  too_long_lem r e l = rw (e, le-leb message_most c.at l)
-
-  pub acted : (y : After) → c.at < message_most → y ≡ after_of F (act x b ts (further c (c.at + 1)) m) → y ≡ after_of F (step b (wait x ts c m))
+module _ (b : ℕ) (x : Mode) (ts : List Frame) (c : Cursor) (m : Memory) where
+  pub too_long_step : message_most ≤ c.at → step b (wait x ts c m) ≡ over (refusal refusals.too_long 0 c.at m)
   unfolding step message_limit
-  acted y l q =
-      let e : c.at + 1 ≡ suc c.at = omega arith in
-      rw (lt-leb message_most c.at l) (q ∙ ap (λ (k : ℕ). after_of F (act x b ts (further c k) m)) e)
+  too_long_step l = rw (le-leb message_most c.at l)
+
+  pub act_step : c.at < message_most → step b (wait x ts c m) ≡ act x b ts (further c (c.at + 1)) m
+  unfolding step message_limit
+  act_step l = let e : c.at + 1 ≡ suc c.at = omega arith in rw (lt-leb message_most c.at l, e)
+
+-- ---- what settling leaves
+
+module _ (m m' : Memory) where
+  pub settles_err : (a : Result Next Refusal) → is_err a ≡ true → m' ≡ zeroed m → (F : List ℕ) (c : Cursor) (d : ℕ)
+      → after (turn_of a c d) F m' ≡ settled (after (turn_of a c d) F m)
+  unfolding settled
+  settles_err (Err r) t e F c d = rw e
+  settles_err (Ok x) t e F c d = let z : ◌≡◌ {A = Bool} false true = t in clash cc
+
+  pub settles_ok : (a : Result Next Refusal) → is_err a ≡ false → m' ≡ m → (F : List ℕ) (c : Cursor) (d : ℕ)
+      → after (turn_of a c d) F m' ≡ settled (after (turn_of a c d) F m)
+  unfolding settled
+  settles_ok (Err r) t e F c d = let z : ◌≡◌ {A = Bool} true false = t in clash cc
+  settles_ok (Ok (next.Wait w)) t e F c d = rw e
+  settles_ok (Ok next.Finished) t e F c d = rw e

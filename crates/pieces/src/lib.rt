@@ -3,181 +3,121 @@
 
 #![tactic(auto)]
 
-ghost use Rattle.rows.specs.Memory.{at_entry, at_exit, memory, message_limit};
-ghost use Rattle.resume.specs.Steps.{Steps, after, after_of, settled};
-ghost use Rattle.std.specs.Prelude.{◌≡◌, true, false, List, ℕ, ◌+◌, ◌-◌, ◌≤◌, ◌<◌, length};
-ghost use Rattle.std.proofs.lemmas.List.Edits.{sets};
-ghost use Rattle.std.proofs.Math.Seq.{slice};
-ghost use Rattle.rows.specs.Memory as m;
-ghost use Rattle.format.specs.Numbers.{lent_of, mode_of, held, byte_step};
+ghost use Rattle.std.specs.Prelude.{◌≡◌, true, false, List, ℕ, ◌≤◌, ◌<◌, length};
+ghost use Rattle.rows.specs.declared.Cursor.{Cursor};
+ghost use Rattle.rows.specs.Memory.{message_limit};
+ghost use Rattle.rows.specs.Lent.{memory_of, SameLoans};
+ghost use Rattle.format.specs.Numbers.{mode_of, held, byte_step};
 ghost use Rattle.format.specs.Numbers as n;
 ghost use Rattle.format.specs.Step as steps;
-ghost use Rattle.states.specs.Purposes.{IsRaw};
-ghost use Rattle.pieces.specs.States.{numbers, state_after, head_of, held_of, cost_of, ran, run_of, run_past, waiting, Nearly, Bulk, work_past, rows_past};
-ghost use Rattle.format.specs.Codes.{mode_text};
+ghost use Rattle.states.specs.Ends.{has_ended};
+ghost use Rattle.resume.specs.Steps.{Steps, Refused, loans_of, turn_of, after, settled};
+ghost use Rattle.pieces.specs.States.{Takes, Fillable, Filled, Drives, RunsAll, numbers, head_of, cost_of, ran, run_of, Nearly, Bulk, work_past};
 
-use format::{Frames, Head, Lent, Work, modes, refusals, statuses};
-use resume::Next;
-use rows::{Cursor, MESSAGE_LIMIT};
+use format::{Frames, Head, Lent, Refusal, Work, modes, refusals, statuses};
+use resume::{Feeding, Next};
+use rows::{Cursor, Loans, MESSAGE_LIMIT};
 
 // ---- the step
 
 // Byte `b` for a sound state that waits: refused with 11 where it has taken all.
-fn go_on(
-    c: Cursor,
-    depth: usize,
-    w: Work,
-    frames: &mut Frames,
-    rows: &mut [usize],
-    store: &mut [u8],
-    strings: &mut [usize],
-    objects: &mut [usize],
-    traits: &mut [usize],
-    names: &mut [usize],
-    b: u8,
-) -> Next
-    requires { n.depth_fits (mode_of w) depth ≡ true }
-    ensures { Steps result frames depth rows store strings objects traits names (λ ts m. steps.step b (steps.wait (mode_of w) ts c m)) }
+fn go_on(f: &mut Feeding, w: Work, b: u8) -> Result<Next, Refusal>
+    requires { n.depth_fits (mode_of w) f.old.depth ≡ true }
+    ensures { Steps result f.old f.new (λ ts c m. steps.step b (steps.wait (mode_of w) ts c m)) }
 {
-    if MESSAGE_LIMIT <= c.at {
-        return Next::Refused(decide::refuse(c, refusals::TOO_LONG, 0));
+    if MESSAGE_LIMIT <= f.cursor.at {
+        return Err(decide::refuse(f.cursor, refusals::TOO_LONG, 0));
     }
-    let mut past = c;
-    past.at = c.at + 1;
-    step::act(
-        past, depth, w, frames, rows, store, strings, objects, traits, names, b,
-    )
+    f.cursor.at += 1;
+    step::act(f, w, b)
 }
 
 // What a state that has not ended makes of a byte: one that was never begun, or is not sound, is refused with 12, and one that has taken all with 11.
-fn next(
-    h: Head,
-    frames: &mut Frames,
-    rows: &mut [usize],
-    store: &mut [u8],
-    strings: &mut [usize],
-    objects: &mut [usize],
-    traits: &mut [usize],
-    names: &mut [usize],
-    b: u8,
-) -> Next
-    ensures { settled (after result frames.new (at_exit rows store strings objects traits names))
-        ≡ after_of frames.old (state_after b h frames.old (at_entry rows store strings objects traits names)) }
+fn next(h: Head, f: &mut Feeding, b: u8) -> Result<Next, Refusal>
+    requires depth { f.old.depth ≡ h.depth }
+    requires cursor { f.old.cursor ≡ h.cursor }
+    ensures { Takes result f.old f.new b h }
 {
-    if h.status != statuses::WAITING {
-        return Next::Refused(decide::lost());
-    }
-    let l = Lent {
-        rows: rows.len(),
-        store: store.len(),
-        strings: strings.len(),
-        objects: objects.len(),
-        traits: traits.len(),
-        names: names.len(),
+    let lent = Lent {
+        rows: f.rows.len(),
+        store: f.store.len(),
+        strings: f.strings.len(),
+        objects: f.objects.len(),
+        traits: f.traits.len(),
+        names: f.names.len(),
     };
-    if !states::sound(h, l) {
-        return Next::Refused(decide::lost());
+    if h.status != statuses::WAITING || !states::sound(h, lent) {
+        return Err(decide::lost());
     }
-    go_on(
-        h.cursor, h.depth, h.work, frames, rows, store, strings, objects, traits, names, b,
-    )
+    go_on(f, h.work, b)
 }
 
 // A refusal leaves every loan zero.
-fn settle(
-    rows: &mut [usize],
-    store: &mut [u8],
-    strings: &mut [usize],
-    objects: &mut [usize],
-    traits: &mut [usize],
-    names: &mut [usize],
-    a: Next,
-)
-    ensures { (F : List ℕ) → after a F (at_exit rows store strings objects traits names)
-        ≡ settled (after a F (at_entry rows store strings objects traits names)) }
+fn settle(loans: &mut Loans, a: Result<Next, Refusal>)
+    ensures settled { (F : List ℕ) (c : Cursor) (d : ℕ) → after (turn_of a c d) F (memory_of loans.new) ≡ settled (after (turn_of a c d) F (memory_of loans.old)) }
+    ensures same { SameLoans loans.old loans.new }
 {
-    match a {
-        Next::Wait(w, c, depth) => (),
-        Next::Finished(c) => (),
-        Next::Refused(r) => rows::clear(rows, store, strings, objects, traits, names),
+    if a.is_err() {
+        loans.clear();
     }
 }
 
-// The head of an answer, over loans of these lengths.
-pub fn head_after(lent: Lent, a: Next) -> Head
-    ensures { result ≡ head_of lent a }
+// The head of an answer, over loans of these lengths, with this cursor and so many values open.
+pub fn head_after(lent: Lent, a: Result<Next, Refusal>, cursor: Cursor, depth: usize) -> Head
+    ensures { result ≡ head_of lent (turn_of a cursor depth) }
 {
     match a {
-        Next::Wait(w, c, depth) => head(statuses::WAITING, 0, 0, 0, lent, c, depth, w),
-        Next::Finished(c) => head(statuses::FINISHED, 0, 0, 0, lent, c, 0, format::idle()),
-        Next::Refused(r) => head(
-            statuses::REFUSED,
-            r.number,
-            r.told,
-            r.place,
+        Ok(Next::Wait(work)) => Head {
+            status: statuses::WAITING,
             lent,
-            rows::fresh(),
-            0,
-            format::idle(),
-        ),
-    }
-}
-
-fn head(
-    status: usize,
-    number: usize,
-    told: usize,
-    place: usize,
-    lent: Lent,
-    cursor: Cursor,
-    depth: usize,
-    work: Work,
-) -> Head
-    ensures { result ≡ n.head status number told place lent cursor depth work }
-{
-    Head {
-        status,
-        number,
-        told,
-        place,
-        lent,
-        cursor,
-        depth,
-        work,
+            cursor,
+            depth,
+            work,
+            ..Head::default()
+        },
+        Ok(Next::Finished) => Head {
+            status: statuses::FINISHED,
+            lent,
+            cursor,
+            ..Head::default()
+        },
+        Err(r) => Head {
+            status: statuses::REFUSED,
+            number: r.number,
+            told: r.told,
+            place: r.place,
+            lent,
+            ..Head::default()
+        },
     }
 }
 
 // One byte on any state. What has ended stays as it is, and its loans untouched.
-pub fn step(
-    h: Head,
-    frames: &mut Frames,
-    rows: &mut [usize],
-    store: &mut [u8],
-    strings: &mut [usize],
-    objects: &mut [usize],
-    traits: &mut [usize],
-    names: &mut [usize],
-    b: u8,
-) -> Head
-    ensures { held (numbers result frames.new) (at_exit rows store strings objects traits names)
-        ≡ byte_step b (held (numbers h frames.old) (at_entry rows store strings objects traits names)) }
+pub fn step(h: Head, frames: &mut Frames, loans: &mut Loans, b: u8) -> Head
+    ensures held { held (numbers result frames.new) (memory_of loans.new) ≡ byte_step b (held (numbers h frames.old) (memory_of loans.old)) }
+    ensures same { SameLoans loans.old loans.new }
 {
     if states::has_ended(h) {
         return h;
     }
-    let a = next(h, frames, rows, store, strings, objects, traits, names, b);
-    settle(rows, store, strings, objects, traits, names, a);
-    head_after(h.lent, a)
+    let mut f = Feeding {
+        frames: &mut *frames,
+        depth: h.depth,
+        rows: &mut *loans.rows,
+        store: &mut *loans.store,
+        strings: &mut *loans.strings,
+        objects: &mut *loans.objects,
+        traits: &mut *loans.traits,
+        names: &mut *loans.names,
+        cursor: h.cursor,
+    };
+    let a = next(h, &mut f, b);
+    let head = head_after(h.lent, a, f.cursor, f.depth);
+    settle(loans, a);
+    head
 }
 
 // ---- a piece
-
-// The answer of the last step of a piece, and the bytes taken.
-#[derive(Drop)]
-struct Went {
-    next: Next,
-    taken: usize,
-}
 
 // The head after a piece, and the bytes taken.
 #[derive(Drop)]
@@ -186,32 +126,11 @@ pub struct Ran {
     pub taken: usize,
 }
 
-// The byte that made an answer was taken, but for 11 and 12.
-fn cost(a: Next) -> usize
-    ensures { result ≡ cost_of a }
+// The byte that was refused was taken, but for 11 and 12.
+fn cost(r: Refusal) -> usize
+    ensures { result ≡ cost_of (Refused r) }
 {
-    match a {
-        Next::Wait(w, c, depth) => 1,
-        Next::Finished(c) => 1,
-        Next::Refused(r) => {
-            if r.number < refusals::TOO_LONG {
-                return 1;
-            }
-            if refusals::LOST < r.number {
-                return 1;
-            }
-            0
-        }
-    }
-}
-
-fn least(a: usize, b: usize) -> usize
-    ensures { (result ≤ a) × (result ≤ b) }
-{
-    if a < b {
-        return a;
-    }
-    b
+    usize::from(!matches!(r.number, refusals::TOO_LONG | refusals::LOST))
 }
 
 // How many of `n` bytes can be filled in at once: all but the last of a text or a raw body, 0 where a step is due.
@@ -222,41 +141,28 @@ fn bulk(c: Cursor, w: Work, n: usize) -> usize
     if w.mode < modes::TEXT {
         return 0;
     }
-    least(least(w.left, n), MESSAGE_LIMIT - c.at)
+    w.left.min(n).min(MESSAGE_LIMIT - c.at)
 }
 
-// Fills `k` bytes of the piece from `i` on into the span of a text or a raw body, as that many steps would. The answer is the work after them.
-fn fill(
-    rows: &mut [usize],
-    store: &mut [u8],
-    c: Cursor,
-    w: Work,
-    piece: &[u8],
-    i: usize,
-    k: usize,
-) -> Work
-    requires { (w.span.begin + w.span.size ≤ length store.old) × (w.left < w.span.size) × (0 < k) × (k ≤ w.left) × (i + k ≤ length piece.now)
-        × ((w.mode ≡ mode_text → ⊥) → IsRaw w.purpose) }
-    ensures { (store.new ≡ sets store.old (w.span.begin + (w.span.size - (w.left + 1))) (slice i (i + k) piece.now))
-        × (result ≡ work_past w k (slice i (i + k) piece.now)) × (rows.new ≡ rows_past w c k rows.old) }
+// Fills bytes into the span of a text or a raw body, as a step for each would. The answer is the work after them.
+fn fill(f: &mut Feeding, w: Work, bytes: &[u8]) -> Work
+    requires { Fillable f.old w (length bytes.now) }
+    ensures work { result ≡ work_past w (length bytes.now) bytes.now }
+    ensures filled { Filled f.old f.new w bytes.now }
 {
-    let mut g = w;
-    g.left = w.left - k;
-    rows::copy(
-        store,
-        w.span.begin + (w.span.size - (w.left + 1)),
-        piece,
-        i,
-        k,
-    );
+    let k = bytes.len();
+    let mut past = w;
+    past.left = w.left - k;
+    f.cursor.at += k;
+    rows::copy(f.store, w.span.begin + (w.span.size - (w.left + 1)), bytes);
     if w.mode == modes::TEXT {
-        g.part = utf8::run(w.part, &piece[i..i + k]);
-        return g;
+        past.part = utf8::run(w.part, bytes);
+        return past;
     }
     let mut last = w;
-    last.left = w.left - k + 1;
-    step::raw_grown(rows, c, last);
-    g
+    last.left = past.left + 1;
+    let _ = step::raw_grown(f, last);
+    past
 }
 
 // How many numbers the frames have: what their type says, which a proof has from this alone.
@@ -267,97 +173,73 @@ fn frame_numbers(frames: &Frames) -> usize
     numbers.len()
 }
 
-// The bytes of a piece after its first, on a sound state that waits.
-fn drive(
-    c0: Cursor,
-    depth0: usize,
-    w0: Work,
-    frames: &mut Frames,
-    rows: &mut [usize],
-    store: &mut [u8],
-    strings: &mut [usize],
-    objects: &mut [usize],
-    traits: &mut [usize],
-    names: &mut [usize],
-    piece: &[u8],
-) -> Went
-    requires { Nearly w0 c0 depth0 frames.old (memory rows.old store.old strings.old objects.old traits.old names.old) × (0 < length piece.now) }
-    ensures { ran (held_of (lent_of (at_entry rows store strings objects traits names))
-        (settled (after result.next frames.new (at_exit rows store strings objects traits names)))) result.taken
-        ≡ run_past (held (waiting (lent_of (at_entry rows store strings objects traits names)) w0 c0 depth0 frames.old)
-        (at_entry rows store strings objects traits names)) piece.now }
+// The bytes of a piece after its first, on a sound state that waits: the answer of the last step, and the bytes taken. The steps are of one byte or of many, so
+// that `i` is counted by hand.
+fn drive(f: &mut Feeding, w0: Work, piece: &[u8]) -> (Result<Next, Refusal>, usize)
+    requires ready { Nearly w0 f.old.cursor f.old.depth f.old.frames.now (loans_of f.old) }
+    requires some { 0 < length piece.now }
+    ensures { Drives result f.old f.new w0 piece.now }
 {
-    frame_numbers(frames);
-    let mut c = c0;
-    let mut depth = depth0;
+    frame_numbers(f.frames);
     let mut w = w0;
     let mut i = 1;
     while i < piece.len() {
-        if !states::pairs_fit(c, w) {
-            let next = Next::Refused(decide::lost());
-            return Went { next, taken: i };
+        if !states::pairs_fit(f.cursor, w) {
+            return (Err(decide::lost()), i);
         }
-        let k = bulk(c, w, piece.len() - i);
+        let k = bulk(f.cursor, w, piece.len() - i);
         if 0 < k {
-            w = fill(rows, store, c, w, piece, i, k);
-            c.at = c.at + k;
+            w = fill(f, w, &piece[i..i + k]);
             i += k;
         } else {
-            let a = go_on(
-                c, depth, w, frames, rows, store, strings, objects, traits, names, piece[i],
-            );
-            let Next::Wait(w1, c1, depth1) = a else {
-                let taken = i + cost(a);
-                return Went { next: a, taken };
-            };
-            w = w1;
-            c = c1;
-            depth = depth1;
+            match go_on(f, w, piece[i]) {
+                Ok(Next::Wait(on)) => w = on,
+                Ok(Next::Finished) => return (Ok(Next::Finished), i + 1),
+                Err(r) => return (Err(r), i + cost(r)),
+            }
             i += 1;
         }
     }
-    let next = Next::Wait(w, c, depth);
-    Went { next, taken: i }
+    (Ok(Next::Wait(w)), i)
 }
 
-// A piece on any state: its bytes one after another. Whether the state holds together is tested once, with the first byte.
-pub fn run(
-    h: Head,
-    frames: &mut Frames,
-    rows: &mut [usize],
-    store: &mut [u8],
-    strings: &mut [usize],
-    objects: &mut [usize],
-    traits: &mut [usize],
-    names: &mut [usize],
-    piece: &[u8],
-) -> Ran
-    ensures { ran (held (numbers result.head frames.new) (at_exit rows store strings objects traits names)) result.taken
-        ≡ run_of (held (numbers h frames.old) (at_entry rows store strings objects traits names)) piece.now }
+// A piece on a state that has not ended: the answer of the last step, and the bytes taken. Whether the state holds together is tested once, with the first byte.
+fn take(h: Head, f: &mut Feeding, piece: &[u8]) -> (Result<Next, Refusal>, usize)
+    requires depth { f.old.depth ≡ h.depth }
+    requires cursor { f.old.cursor ≡ h.cursor }
+    requires going { has_ended h ≡ false }
+    requires some { 0 < length piece.now }
+    ensures { RunsAll result f.old f.new h piece.now }
 {
-    if piece.len() == 0 {
+    frame_numbers(f.frames);
+    match next(h, f, piece[0]) {
+        Ok(Next::Wait(w)) => drive(f, w, piece),
+        Ok(Next::Finished) => (Ok(Next::Finished), 1),
+        Err(r) => (Err(r), cost(r)),
+    }
+}
+
+// A piece on any state: its bytes one after another. What has ended takes none.
+pub fn run(h: Head, frames: &mut Frames, loans: &mut Loans, piece: &[u8]) -> Ran
+    ensures ran { ran (held (numbers result.head frames.new) (memory_of loans.new)) result.taken ≡ run_of (held (numbers h frames.old) (memory_of loans.old)) piece.now }
+    ensures same { SameLoans loans.old loans.new }
+{
+    if piece.is_empty() || states::has_ended(h) {
         return Ran { head: h, taken: 0 };
     }
-    if states::has_ended(h) {
-        return Ran { head: h, taken: 0 };
-    }
-    frame_numbers(frames);
-    let b = piece[0];
-    let a = next(h, frames, rows, store, strings, objects, traits, names, b);
-    let Next::Wait(w, c, depth) = a else {
-        settle(rows, store, strings, objects, traits, names, a);
-        return Ran {
-            head: head_after(h.lent, a),
-            taken: cost(a),
-        };
+    let mut f = Feeding {
+        frames: &mut *frames,
+        depth: h.depth,
+        rows: &mut *loans.rows,
+        store: &mut *loans.store,
+        strings: &mut *loans.strings,
+        objects: &mut *loans.objects,
+        traits: &mut *loans.traits,
+        names: &mut *loans.names,
+        cursor: h.cursor,
     };
-    let went = drive(
-        c, depth, w, frames, rows, store, strings, objects, traits, names, piece,
-    );
-    let last = went.next;
-    settle(rows, store, strings, objects, traits, names, last);
-    Ran {
-        head: head_after(h.lent, last),
-        taken: went.taken,
-    }
+    let (a, taken) = take(h, &mut f, piece);
+    let head = head_after(h.lent, a, f.cursor, f.depth);
+    settle(loans, a);
+    Ran { head, taken }
 }

@@ -2,10 +2,10 @@
 use mathlib.Core.Path.{◌≡◌, ap, sym, ◌∙◌}
 use mathlib.Core.List.{List}
 use Prim.Native.Nat.{ℕ}
-use Rattle.wire.specs.declared.Moment.{Moment}
+use Rattle.std.specs.Prelude.{Option, Result, ℤ}
 use Rattle.rows.specs.Memory.{Memory}
 use Rattle.format.specs.declared.Answer.{Answer}
-use Rattle.format.specs.declared.Written.{Written}
+use Rattle.format.specs.declared.Refusal.{Refusal}
 use Rattle.format.specs.Numbers.{Numbers}
 use Rattle.format.specs.Answers.{Fed, fed, begin_call, feed_call, end_call, read, output}
 use Rattle.feed.specs.declared.State.{State}
@@ -66,7 +66,7 @@ one_pb_read a b m n lent message p q = let e : left a m ≡ left b n = p ∙ sym
 
 -- ---- write
 
-pub one-write : (a b : Written) (P Q rows store out : List ℕ) → WriteContract a P rows store out → WriteContract b Q rows store out → (a ≡ b) × (P ≡ Q)
+pub one-write : (a b : Result ℕ Refusal) (P Q rows store out : List ℕ) → WriteContract a P rows store out → WriteContract b Q rows store out → (a ≡ b) × (P ≡ Q)
 one-write a b P Q rows store out p q = let e : output a P ≡ output b Q = p ∙ sym q in (cc, cc)
 
 pub one_pb_write : (a b : Coded) (P Q rows store out : List ℕ) → CWriteContract a P rows store out → CWriteContract b Q rows store out → (a ≡ b) × (P ≡ Q)
@@ -82,7 +82,7 @@ one_pb_text x y rows store row p q = p ∙ sym q
 
 -- ---- millis
 
-pub one-millis : (x y : Moment) (rows store : List ℕ) (row : ℕ) → MillisContract x rows store row → MillisContract y rows store row → x ≡ y
+pub one-millis : (x y : Option ℤ) (rows store : List ℕ) (row : ℕ) → MillisContract x rows store row → MillisContract y rows store row → x ≡ y
 one-millis x y rows store row p q = p ∙ sym q
 
 pub one_pb_millis : (x y : Instant) (rows store : List ℕ) (row : ℕ) → CMillisContract x rows store row → CMillisContract y rows store row → x ≡ y

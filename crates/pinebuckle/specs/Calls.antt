@@ -1,13 +1,12 @@
 -- The contracts of the public calls: what the answer, the state and all that is lent are after the call, from what they were before it.
-use Rattle.std.specs.Prelude.{◌≡◌, List, ℕ}
+use Rattle.std.specs.Prelude.{◌≡◌, Option, Result, List, ℕ, ℤ}
 use Rattle.rows.specs.Memory.{Memory}
 use Rattle.format.specs.declared.Answer.{Answer}
-use Rattle.format.specs.declared.Written.{Written}
+use Rattle.format.specs.declared.Refusal.{Refusal}
 use Rattle.format.specs.Answers.{fed, begin_call, feed_call, end_call, read, read_call, output, write_call, text_call, millis_call}
 use Rattle.format.specs.Text.{text_span}
 use Rattle.feed.specs.declared.State.{State}
 use Rattle.feed.specs.Calls.{state_numbers}
-use Rattle.wire.specs.declared.Moment.{Moment}
 use Rattle.pinebuckle.specs.declared.Coded.{Coded}
 use Rattle.pinebuckle.specs.declared.Instant.{Instant}
 use Rattle.pinebuckle.specs.declared.Place.{Place}
@@ -27,13 +26,13 @@ EndContract a s m from lent = fed a (state_numbers s) m ≡ end_call (state_numb
 abbrev pub ReadContract : Answer → Memory → Memory → List ℕ → Type 0
 ReadContract a m lent message = read a m ≡ read_call lent message
 
-abbrev pub WriteContract : Written → List ℕ → List ℕ → List ℕ → List ℕ → Type 0
+abbrev pub WriteContract : Result ℕ Refusal → List ℕ → List ℕ → List ℕ → List ℕ → Type 0
 WriteContract a P rows store out = output a P ≡ write_call rows store out
 
 abbrev pub TextContract : List ℕ → List ℕ → List ℕ → ℕ → List ℕ → Type 0
 TextContract part rows store row default = part ≡ text_call rows store row default
 
-abbrev pub MillisContract : Moment → List ℕ → List ℕ → ℕ → Type 0
+abbrev pub MillisContract : Option ℤ → List ℕ → List ℕ → ℕ → Type 0
 MillisContract moment rows store row = moment ≡ millis_call rows store row
 
 -- ---- in C

@@ -1,12 +1,9 @@
 -- The answers of the calls as C has them.
-use Rattle.std.specs.Prelude.{List, ℕ, pos}
-use Rattle.wire.specs.declared.Moment.{Moment}
-use Rattle.wire.specs.declared.Moment.TheVariants.{None, At}
+use Rattle.std.specs.Prelude.{Option, Some, None, Result, Ok, Err, List, ℕ, ℤ, pos}
 use Rattle.rows.specs.Memory.{Memory}
 use Rattle.format.specs.declared.Answer.{Answer}
 use Rattle.format.specs.declared.Answer.TheVariants.{Waiting, Finished, Refused}
-use Rattle.format.specs.declared.Written.{Written}
-use Rattle.format.specs.declared.Written.TheVariants.{Bytes, Unwritten}
+use Rattle.format.specs.declared.Refusal.{Refusal}
 use Rattle.format.specs.Numbers.{Numbers}
 use Rattle.format.specs.Answers.{Fed, fed, Read, read, Output, output}
 use Rattle.format.specs.Text.{Found, nowhere, found}
@@ -33,9 +30,9 @@ code_of (Waiting taken) = code say_waiting 0 0 0 0 0 taken
 code_of (Finished rows bytes taken) = code say_finished 0 0 0 rows bytes taken
 code_of (Refused number told place taken) = code say_refused number told place 0 0 taken
 
-abbrev pub written_code : Written → Coded
-written_code (Bytes n) = code say_finished 0 0 0 0 n 0
-written_code (Unwritten number told place) = code say_refused number told place 0 0 0
+abbrev pub written_code : Result ℕ Refusal → Coded
+written_code (Ok n) = code say_finished 0 0 0 0 n 0
+written_code (Err r) = code say_refused r.number r.told r.place 0 0 0
 
 -- an answer with the state and the loans, with the loans, with the output, that it left
 pub data Passed : Type 0 where
@@ -60,6 +57,6 @@ abbrev pub span_code : Found → Place
 span_code nowhere = record { found = 0; begin = 0; length = 0 }
 span_code (found begin size) = record { found = 1; begin = begin; length = size }
 
-abbrev pub moment_code : Moment → Instant
+abbrev pub moment_code : Option ℤ → Instant
 moment_code None = record { found = 0; millis = pos 0 }
-moment_code (At n) = record { found = 1; millis = n }
+moment_code (Some n) = record { found = 1; millis = n }

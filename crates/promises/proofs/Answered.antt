@@ -14,7 +14,7 @@ use Rattle.rows.specs.Memory.{Memory, zeros, zeroed, fault_of, message_limit, lo
 use Rattle.wire.proofs.Octets.{Bytes}
 use Rattle.format.specs.declared.Answer.{Answer}
 use Rattle.format.specs.declared.Answer.TheVariants.{Waiting, Refused}
-use Rattle.format.specs.declared.Lent.{Lent}
+use Rattle.rows.specs.declared.lent.Lent.{Lent}
 use Rattle.format.specs.declared.Frame.{Frame}
 use Rattle.format.specs.Reading.{Ended, finished, refused, taken}
 use Rattle.format.specs.Step.{Mode, State, wait, over, none, act, step, end, begin}

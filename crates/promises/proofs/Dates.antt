@@ -1,4 +1,5 @@
 -- Dates: read by their bits, asked for their milliseconds, and written again.
+use Rattle.std.proofs.Common.{Option, None, ℤ}
 use mathlib.Core.Path.{◌≡◌, refl, sym, ap, ◌∙◌}
 use mathlib.Core.Bool.{Bool, true, false, cond, not, ◌&&◌}
 use mathlib.Core.Logic.{◌≢◌}
@@ -13,7 +14,6 @@ use lib.ListN.{length}
 use Rattle.wire.specs.Date.{refused_date, moment_of}
 use Rattle.wire.specs.Big.{number_of, bytes_of}
 use Rattle.wire.specs.Octets.{Bytes}
-use Rattle.wire.specs.declared.Moment.TheVariants.{None}
 use Rattle.wire.proofs.Big.{bytes_below, bytes-length}
 use Rattle.wire.proofs.Dates.{refused_ones, writes-as_crate}
 use Rattle.rows.specs.declared.Cursor.{Cursor}
@@ -85,7 +85,7 @@ module _ (bits : ℕ) where
 
 -- ---- asked
 
-always_none : (t : Bool) → cond t None None ≡ None
+always_none : (t : Bool) → ◌≡◌ {A = Option ℤ} (cond t None None) None
 always_none true = refl
 always_none false = refl
 

@@ -1,5 +1,6 @@
 -- The three demands, and requests 4 and 13, sentence by sentence, each with its theorem. The proofs stand in the crates format, beside the definitions, and meaning, and in this one.
 -- Where a theorem refuses a wrong program that keeps the others, it says so.
+use Rattle.std.proofs.Common.{Some, None}
 use mathlib.Core.Path.{◌≡◌, refl}
 use mathlib.Core.Bool.{true, false, cond, not, ◌&&◌}
 use mathlib.Core.Logic.{◌≢◌}
@@ -13,7 +14,6 @@ use Rattle.rows.specs.declared.Cursor.{Cursor}
 use Rattle.rows.specs.declared.Key.{Key}
 use Rattle.rows.specs.declared.Span.{Span}
 use Rattle.wire.specs.declared.Part.TheVariants.{Whole}
-use Rattle.wire.specs.declared.Moment.TheVariants.{None, At}
 use Rattle.wire.specs.U29.{part_of}
 use Rattle.wire.specs.Big.{number_of, bytes_of}
 use Rattle.wire.specs.Date.{refused_date, moment_of, bounded}
@@ -25,14 +25,14 @@ use Rattle.rows.specs.Kinds.{kind_date, kind_reference}
 use Rattle.format.specs.Refusals as no
 use Rattle.format.specs.declared.Answer.{Answer}
 use Rattle.format.specs.declared.Answer.TheVariants.{Waiting, Finished, Refused}
-use Rattle.format.specs.declared.Written.TheVariants.{Bytes as Written, Unwritten}
+use Rattle.std.specs.Prelude.{Ok, Err}
 use Rattle.format.specs.declared.Frame.{Frame}
 use Rattle.format.specs.Bodies as body
 use Rattle.format.specs.Reading as reader
 use Rattle.format.specs.Reading.{ok, bad, Ended, finished, refused, ended, unless_fault, reading}
 use Rattle.format.specs.Step.{Mode, at_marker, at_word, at_text, Word, Text, table_text, Use, wait, over, none, shown, end, run, begin}
 use Rattle.format.specs.Numbers.{Numbers, state_of, lent_of, frames_size}
-use Rattle.format.specs.Answers.{Fed, fed, answer_of, begin_call, feed_call, end_call, read, read_call, output, write_call, text_call, millis_call}
+use Rattle.format.specs.Answers.{Fed, fed, answer_of, begin_call, feed_call, end_call, read, read_call, output, refusal_of, write_call, text_call, millis_call}
 use Rattle.format.specs.Standard.{Tables, Tree, Std, plain, date, no_tables, new_of, value, standard, encode}
 use Rattle.format.specs.Unfold.{home, part, node, unfolded}
 use Rattle.format.specs.Holds.{can_hold}
@@ -193,13 +193,13 @@ marker-full = precedence.marker-full
 -- at the last byte of a literal object's word the objects' room, before all that follows
 pub objects-first : (state : Numbers) (m : Memory) (b : ℕ) (bs : List ℕ) (x : Word) (left part v : ℕ) (ts : List Frame) (c : Cursor)
     → state_of state m ≡ wait (at_word x left part) ts c m → Together state.head.lent (at_word x left part) ts c m → b < 2 ^ 8 → c.at < message_limit
-    → part_of left part b ≡ Whole v → Enters x v → length m.objects ≤ c.objects → RefusedWith state m (b ∷ bs) no.no_room loan_objects (suc c.at) 1
+    → part_of left part b ≡ Some (Whole v) → Enters x v → length m.objects ≤ c.objects → RefusedWith state m (b ∷ bs) no.no_room loan_objects (suc c.at) 1
 objects-first = precedence.objects-first
 
 -- then room in the store, as soon as the length is known
 pub store-next : (state : Numbers) (m : Memory) (b : ℕ) (bs : List ℕ) (x : Word) (left part v : ℕ) (ts : List Frame) (c : Cursor)
     → state_of state m ≡ wait (at_word x left part) ts c m → Together state.head.lent (at_word x left part) ts c m → b < 2 ^ 8 → c.at < message_limit
-    → part_of left part b ≡ Whole v → (Enters x v → c.objects < length m.objects) → length m.store < c.store + asked x (size_of v)
+    → part_of left part b ≡ Some (Whole v) → (Enters x v → c.objects < length m.objects) → length m.store < c.store + asked x (size_of v)
     → RefusedWith state m (b ∷ bs) no.no_room loan_store (suc c.at) 1
 store-next = precedence.store-next
 
@@ -259,14 +259,14 @@ pub read-refused : (m : Memory) (bytes : List ℕ) (n told place : ℕ) (k : Mem
 read-refused = ties.read-refused
 
 -- an accepted write reports its bytes, and a refused one its refusal. Refuses: a write that refuses everything, whatever the writing
-pub write-accepted : (R B out P : List ℕ) (n : ℕ) → writing R B out ≡ written n P → write_call R B out ≡ output (Written n) P
+pub write-accepted : (R B out P : List ℕ) (n : ℕ) → writing R B out ≡ written n P → write_call R B out ≡ output (Ok n) P
 write-accepted = ties.write-accepted
 
-pub write-refused : (R B out P : List ℕ) (n told place : ℕ) → writing R B out ≡ unwritten n told place P → write_call R B out ≡ output (Unwritten n told place) P
+pub write-refused : (R B out P : List ℕ) (n told place : ℕ) → writing R B out ≡ unwritten n told place P → write_call R B out ≡ output (Err (refusal_of n told place)) P
 write-refused = ties.write-refused
 
 -- what a write accepts is an accepted writing
-pub write-accepts : (R B out P : List ℕ) (n : ℕ) → write_call R B out ≡ output (Written n) P → writing R B out ≡ written n P
+pub write-accepts : (R B out P : List ℕ) (n : ℕ) → write_call R B out ≡ output (Ok n) P → writing R B out ≡ written n P
 write-accepts = writes.call-wrote
 
 -- text gives the part of the store that a row, or the target of a reference, says. Refuses: a text that always gives the default
@@ -380,16 +380,16 @@ pub round_trip : (R B out P : List ℕ) (n : ℕ) → Wide R → writing R B out
 round_trip = trip.round_trip
 
 -- through the calls: what write reports of a store of bytes are bytes
-pub written-bytes : (R B out P : List ℕ) (n : ℕ) → Wide R → Bytes B → write_call R B out ≡ output (Written n) P → Bytes (take n P)
+pub written-bytes : (R B out P : List ℕ) (n : ℕ) → Wide R → Bytes B → write_call R B out ≡ output (Ok n) P → Bytes (take n P)
 written-bytes = trips.written-bytes
 
 -- read gives them back, whatever bytes follow, and so do begin, any pieces and the end
-pub call_trip : (R B out P : List ℕ) (n : ℕ) → Wide R → Bytes B → write_call R B out ≡ output (Written n) P
+pub call_trip : (R B out P : List ℕ) (n : ℕ) → Wide R → Bytes B → write_call R B out ≡ output (Ok n) P
     → (m : Memory) → can_hold m (unfolded R B 0) ≡ true → fault_of m ≡ 0 → (rest : List ℕ) → Bytes rest → Again m (take n P ++ rest) n (unfolded R B 0)
 call_trip = trips.call_trip
 
 -- and with none
-pub call_trip_alone : (R B out P : List ℕ) (n : ℕ) → Wide R → Bytes B → write_call R B out ≡ output (Written n) P
+pub call_trip_alone : (R B out P : List ℕ) (n : ℕ) → Wide R → Bytes B → write_call R B out ≡ output (Ok n) P
     → (m : Memory) → can_hold m (unfolded R B 0) ≡ true → fault_of m ≡ 0 → Again m (take n P) n (unfolded R B 0)
 call_trip_alone = trips.call_trip_alone
 
@@ -597,22 +597,22 @@ pub none-refused : (bits : ℕ) → moment_of bits ≡ None → refused_date bit
 none-refused = moments.none-refused
 
 -- "cut towards zero, signed, held at the ends of the 64-bit range": the whole part of the size, at most 2^63 - 1, or with a minus at most 2^63. Refuses: -1.5 cut to -2
-pub moment_positive : (bits m : ℕ) (e : ℤ) → of_bits binary64 bits ≡ fin false m e → moment_of bits ≡ At (pos (min (m * up e / down e) (2 ^ 63 - 1)))
+pub moment_positive : (bits m : ℕ) (e : ℤ) → of_bits binary64 bits ≡ fin false m e → moment_of bits ≡ Some (pos (min (m * up e / down e) (2 ^ 63 - 1)))
 moment_positive = moments.moment_positive
 
-pub moment-negative : (bits m : ℕ) (e : ℤ) → of_bits binary64 bits ≡ fin true m e → moment_of bits ≡ At (neg_ℤ (pos (min (m * up e / down e) (2 ^ 63))))
+pub moment-negative : (bits m : ℕ) (e : ℤ) → of_bits binary64 bits ≡ fin true m e → moment_of bits ≡ Some (neg_ℤ (pos (min (m * up e / down e) (2 ^ 63))))
 moment-negative = moments.moment-negative
 
 -- the same by the fields of the bits: the exponent's, which is 1 at 2 ^ -1022, and the digits below the leading one; with a field of 0 it is less than one
 pub moment-by-fields : (bits : ℕ) → 0 < bits % 2 ^ 63 / 2 ^ 52 → bits % 2 ^ 63 / 2 ^ 52 < 2047
-    → moment_of bits ≡ At (bounded (leb (2 ^ 63) bits) ((2 ^ 52 + bits % 2 ^ 52) * 2 ^ (bits % 2 ^ 63 / 2 ^ 52 - 1) / 2 ^ 1074))
+    → moment_of bits ≡ Some (bounded (leb (2 ^ 63) bits) ((2 ^ 52 + bits % 2 ^ 52) * 2 ^ (bits % 2 ^ 63 / 2 ^ 52 - 1) / 2 ^ 1074))
 moment-by-fields = moments.moment-by-fields
 
-pub moment-below-one : (bits : ℕ) → bits % 2 ^ 63 / 2 ^ 52 ≡ 0 → moment_of bits ≡ At (pos 0)
+pub moment-below-one : (bits : ℕ) → bits % 2 ^ 63 / 2 ^ 52 ≡ 0 → moment_of bits ≡ Some (pos 0)
 moment-below-one = moments.moment-below-one
 
 -- "-0.0 is accepted and reads as 0 milliseconds"
-pub minus_zero : (refused_date (2 ^ 63) ≡ false) × (moment_of (2 ^ 63) ≡ At (pos 0))
+pub minus_zero : (refused_date (2 ^ 63) ≡ false) × (moment_of (2 ^ 63) ≡ Some (pos 0))
 minus_zero = (moments.refused_ones (2 ^ 63), moments.moment-below-one (2 ^ 63) refl)
 
 -- "The writer puts the 64 bits back". Refuses: a date written without its last bit
@@ -633,7 +633,7 @@ finished-ends = dates.finished-ends
 
 -- "Equality with the crate is kept in reading for dates it accepts below 2^63, compared by milliseconds": the crate casts the double to 64 bits without a sign
 pub crate_reads : (bits : ℕ) → bits < 2 ^ 63 → refused_date bits ≡ false → to_unsigned 64 (of_bits binary64 bits) < 2 ^ 63
-    → moment_of bits ≡ At (pos (to_unsigned 64 (of_bits binary64 bits)))
+    → moment_of bits ≡ Some (pos (to_unsigned 64 (of_bits binary64 bits)))
 crate_reads = moments.reads-as_crate
 
 -- "and in writing for whole ones from +0 to 2^53": it writes the double of the milliseconds that it read
@@ -642,7 +642,7 @@ pub crate_writes : (bits : ℕ) → bits < 2 ^ 63 → T (whole binary64 (of_bits
 crate_writes = dates.crate_writes
 
 -- and what it writes for such milliseconds reads as these
-pub crate_millis : (millis : ℕ) → millis ≤ 2 ^ 53 → moment_of (to_bits binary64 (of_int binary64 (pos millis))) ≡ At (pos millis)
+pub crate_millis : (millis : ℕ) → millis ≤ 2 ^ 53 → moment_of (to_bits binary64 (of_int binary64 (pos millis))) ≡ Some (pos millis)
 crate_millis = moments.date-round
 
 -- ======== Request 13: no order hides in another

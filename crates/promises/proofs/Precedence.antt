@@ -1,5 +1,6 @@
 -- Which refusal comes first, on any waiting state whose head holds together: 11 before the byte is looked at; at a marker 3, 9, then 10 for rows; at a literal object
 -- the objects' room, then the store's; at a text's last byte 8, then the strings' room.
+use Rattle.std.proofs.Common.{Some}
 use mathlib.Core.Path.{◌≡◌, refl, ap, ◌∙◌}
 use mathlib.Core.Bool.{true, false}
 use mathlib.Core.Logic.{◌≢◌}
@@ -33,7 +34,7 @@ use Rattle.format.specs.Answers.{fed, run_held, cost, taken_by, feed_call}
 use Rattle.format.specs.Claims.{refused_numbers, RefusedWith}
 use Rattle.format.specs.Limits.{asked, NewSize, NewShape, Enters}
 use Rattle.format.specs.Together.{Together, Counts, WordIn}
-use Rattle.format.specs.declared.Lent.{Lent}
+use Rattle.rows.specs.declared.lent.Lent.{Lent}
 use Rattle.format.specs.Refusals as no
 use Rattle.format.proofs.Tests.{is_true}
 use Rattle.format.proofs.Pieces.{run-still, taken-still}
@@ -144,7 +145,7 @@ module _ (n : Numbers) (m : Memory) (b : ℕ) (bs : List ℕ) (k : Key) (ts : Li
 -- ---- at the last byte of a word
 
 module _ (n : Numbers) (m : Memory) (b : ℕ) (bs : List ℕ) (x : Word) (left part v : ℕ) (ts : List Frame) (c : Cursor) (w : state_of n m ≡ wait (at_word x left part) ts c m)
-    (h : Together n.head.lent (at_word x left part) ts c m) (o : b < 2 ^ 8) (l : c.at < message_limit) (p : part_of left part b ≡ Whole v) where
+    (h : Together n.head.lent (at_word x left part) ts c m) (o : b < 2 ^ 8) (l : c.at < message_limit) (p : part_of left part b ≡ Some (Whole v)) where
   -- the byte makes the word whole
   act-word : act (at_word x left part) b ts (taken c) m ≡ worded ts x v (taken c) m
   unfolding act

@@ -18,7 +18,7 @@ use Rattle.format.specs.Step.{State, wait, over, none, run, end, begin}
 use Rattle.format.specs.Numbers.{Numbers, Held, held, finishable, lent_of, state_of, numbers_of, after_step, byte_step}
 use Rattle.format.specs.Answers.{answer_of, blank, begin_call, run_held, cost, cost_from, state_in, taken_by, feed_call, end_of, end_call, read_of, read_call}
 use Rattle.format.specs.Answers.{written_of, write_call}
-use Rattle.format.specs.declared.Lent.{Lent}
+use Rattle.rows.specs.declared.lent.Lent.{Lent}
 use Rattle.format.specs.RowTest.{Tested, fine, faulty as unfit_row, well_formed, writable, test_from, tested}
 use Rattle.format.specs.Writing.{Wrote, writing}
 use Rattle.format.proofs.Tests.{on_bool, is_true, both, clash}

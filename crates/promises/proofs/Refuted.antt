@@ -43,7 +43,7 @@ use Rattle.format.specs.RowTest as f
 use Rattle.format.specs.Writing as w
 use Rattle.format.specs.Answers as a
 use Rattle.format.specs.Unfold.{unfolded}
-use Rattle.format.specs.declared.Written.TheVariants.{Bytes as Written}
+use Rattle.std.specs.Prelude.{Ok}
 use Rattle.format.specs.Orders.{Order}
 use Rattle.format.specs.Limits.{Accord}
 use Rattle.format.specs.Limits as limits
@@ -216,7 +216,7 @@ pub record Sends (writes : List ℕ → List ℕ → List ℕ → Output) (R B b
   size : ℕ
   wide : Wide R
   octets : Bytes B
-  accepted : writes R B out ≡ output (Written size) out_after
+  accepted : writes R B out ≡ output (Ok size) out_after
   reports : take size out_after ≡ bytes
 
 -- an int vector of nothing, fixed or not

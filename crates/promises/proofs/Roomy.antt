@@ -1,4 +1,5 @@
 -- More room changes nothing but refusal 10: with longer loans a reading decides the same, byte by byte, and leaves the same, with zeros behind.
+use Rattle.std.proofs.Common.{Option, Some, None}
 use mathlib.Core.Path.{◌≡◌, refl, sym, ap, ◌∙◌}
 use mathlib.Core.Logic.{◌≢◌}
 use mathlib.Core.Bool.{Bool, true, false, cond, not}
@@ -17,7 +18,7 @@ use Rattle.rows.specs.Memory.{Memory, memory, message_limit, open_limit, row_wid
 use Rattle.rows.specs.Memory.{col_count, col_count2, col_end, col, put, row_used, span_at, span_used, no_key, key_of, no_span, zeros, zeroed, fresh, fault_of}
 use Rattle.rows.specs.Kinds.{kind_reference}
 use Rattle.wire.specs.declared.Part.{Part}
-use Rattle.wire.specs.declared.Part.TheVariants.{More, Whole, Astray}
+use Rattle.wire.specs.declared.Part.TheVariants.{More, Whole}
 use Rattle.wire.specs.declared.Size.{Size}
 use Rattle.wire.specs.declared.Size.TheVariants.{Old, New}
 use Rattle.wire.specs.declared.Shape.{Shape}
@@ -513,10 +514,10 @@ module _ {w : Longer} where
 
   -- ---- numbers and texts
 
-  over-part : (f : ℕ → Reader ℕ) → ((n : ℕ) → Over w (f n)) → (x : Part) → Over w (r.on_part f x)
-  over-part f h (More n) = h n
-  over-part f h (Whole n) = over-ret
-  over-part f h Astray = over-lost
+  over-part : (f : ℕ → Reader ℕ) → ((n : ℕ) → Over w (f n)) → (x : Option Part) → Over w (r.on_part f x)
+  over-part f h (Some (More n)) = h n
+  over-part f h (Some (Whole n)) = over-ret
+  over-part f h None = over-lost
 
   over-u29 : (left n : ℕ) → Over w (r.u29 left n)
   unfolding r.u29

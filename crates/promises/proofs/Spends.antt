@@ -1,4 +1,6 @@
 -- What each decision takes, beside the standard's reading; and numbers, words and texts read beside it.
+use Rattle.std.proofs.Common.{Option, Some}
+use Rattle.std.specs.declared.option.Option.TheVariants as option
 use mathlib.Core.Path.{◌≡◌, refl, sym, ◌∙◌}
 use mathlib.Core.Bool.{Bool, true, false, cond}
 use mathlib.Core.List.{List, [], ◌∷◌}
@@ -14,7 +16,7 @@ use Rattle.rows.specs.declared.Key.{Key}
 use Rattle.rows.specs.declared.Trait.{Trait}
 use Rattle.rows.specs.Memory.{Memory, memory, message_limit, span_width, row_used, span_used, span_at, no_span}
 use Rattle.wire.specs.declared.Part.{Part}
-use Rattle.wire.specs.declared.Part.TheVariants.{More, Whole, Astray}
+use Rattle.wire.specs.declared.Part.TheVariants.{More, Whole}
 use Rattle.wire.specs.declared.Size.{Size}
 use Rattle.wire.specs.declared.Size.TheVariants.{Old, New}
 use Rattle.wire.specs.Big.{digit_of}
@@ -208,7 +210,7 @@ unfolding our.u29 std.word
 pays-word zero n =
     pays-bind None _ _ pays-byte (λ b. omega arith) (λ b. gives-ret (omega arith, λ i. i)) (λ a b e. rw e (part b (part_of 0 n b) (step 0 n b)))
   where
-    part : (b : ℕ) (x : Part) → Step 0 n b x
+    part : (b : ℕ) (x : Option Part) → Step 0 n b x
         → Pays {A = ℕ} {B = ℕ} None Any (λ a b. a ≡ b) nothing (our.on_part (λ n. by (λ m c. lost)) x) (ret (n * 2 ^ 8 + b))
     part b x (astray a) = pays-lost takes-ret
     part b x (fourth z g) = pays-ret (omega arith) refl
@@ -221,7 +223,7 @@ pays-word (suc left) n =
     rest : (b : ℕ) → Takes 0 (cond (ltb b (2 ^ 7)) (ret (n * 2 ^ 7 + b)) (std.word left (n * 2 ^ 7 + (b - 2 ^ 7))))
     rest b = takes-cond (ltb b (2 ^ 7)) takes-ret (takes-less (word-takes left (n * 2 ^ 7 + (b - 2 ^ 7))))
 
-    part : ((k : ℕ) → Pays {A = ℕ} {B = ℕ} None Any (λ a b. a ≡ b) nothing (our.u29 left k) (std.word left k)) → (b : ℕ) (x : Part) → Step (suc left) n b x
+    part : ((k : ℕ) → Pays {A = ℕ} {B = ℕ} None Any (λ a b. a ≡ b) nothing (our.u29 left k) (std.word left k)) → (b : ℕ) (x : Option Part) → Step (suc left) n b x
         → Pays {A = ℕ} {B = ℕ} None Any (λ a b. a ≡ b) nothing (our.on_part (our.u29 left) x)
         (cond (ltb b (2 ^ 7)) (ret (n * 2 ^ 7 + b)) (std.word left (n * 2 ^ 7 + (b - 2 ^ 7))))
     part ih b x (astray a) = pays-lost (rest b)
@@ -242,7 +244,7 @@ pays-number zero n =
     pays-bind None _ _ pays-byte (λ b. omega arith) (λ b. more_bytes b zero)
     (λ a b e. part b (leb (2 ^ (8 * (7 - 0))) n) (n * 2 ^ 8 + a))
   where
-    part : (b : ℕ) (t : Bool) (k : ℕ) → Pays None Any (Long 1) nothing (our.on_part (λ n. by (λ m c. lost)) (cond t Astray (Whole k))) (ret (b ∷ []))
+    part : (b : ℕ) (t : Bool) (k : ℕ) → Pays None Any (Long 1) nothing (our.on_part (λ n. by (λ m c. lost)) (cond t option.None (Some (Whole k)))) (ret (b ∷ []))
     part b true k = pays-lost takes-ret
     part b false k = pays-ret (omega arith) refl
 pays-number (suc left) n =
@@ -250,7 +252,7 @@ pays-number (suc left) n =
     (λ a b e. rw (eqb-suc-zero left) (part b (ltb 7 (suc left)) (leb (2 ^ (8 * (7 - suc left))) n) (n * 2 ^ 8 + a) (pays-number left (n * 2 ^ 8 + a))))
   where
     part : (b : ℕ) (t u : Bool) (k : ℕ) → Pays None Any (Long (suc left)) nothing (our.number left k) (std.bytes (suc left))
-        → Pays None Any (Long (suc (suc left))) nothing (our.on_part (our.number left) (cond t Astray (cond u Astray (More k)))) (std.bytes (suc left) >>= (λ bs. ret (b ∷ bs)))
+        → Pays None Any (Long (suc (suc left))) nothing (our.on_part (our.number left) (cond t option.None (cond u option.None (Some (More k))))) (std.bytes (suc left) >>= (λ bs. ret (b ∷ bs)))
     part b true u k h = pays-lost (takes-bind h.takes (λ bs. takes-ret))
     part b false true k h = pays-lost (takes-bind h.takes (λ bs. takes-ret))
     part b false false k h = pays-made (λ bs. b ∷ bs) _ (calm_ret (λ bs. b ∷ bs)) h (λ bs. (omega arith, λ i. i)) (λ a bs e. rw e)

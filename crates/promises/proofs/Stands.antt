@@ -13,7 +13,7 @@ use Rattle.rows.specs.declared.Cursor.{Cursor}
 use Rattle.rows.specs.Memory.{Memory, zeroed, loan_fault, fault_of, message_most, message_limit}
 use Rattle.wire.proofs.Octets.{Bytes}
 use Rattle.format.specs.declared.Frame.{Frame}
-use Rattle.format.specs.declared.Lent.{Lent}
+use Rattle.rows.specs.declared.lent.Lent.{Lent}
 use Rattle.format.specs.Reading.{finished, refused, taken}
 use Rattle.format.specs.Step.{Mode, State, wait, over, none, step, act, broken, begin, begin_at}
 use Rattle.format.specs.Numbers.{Numbers, Held, held, finishable, lent_of, state_of, numbers_of, after_step, byte_step, stepped, sound, sound_step}

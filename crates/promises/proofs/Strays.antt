@@ -1,4 +1,5 @@
 -- Of a state whose head holds together the next byte is refused by 12 exactly where what it looks up strays.
+use Rattle.std.proofs.Common.{Some}
 use mathlib.Core.Path.{◌≡◌, refl, ◌∙◌}
 use mathlib.Core.Bool.{Bool, true, false, cond}
 use mathlib.Core.List.{List, [], ◌∷◌}
@@ -22,7 +23,7 @@ use Rattle.wire.specs.U29.{part_of}
 use Rattle.wire.specs.Word.{size_of, shape_of}
 use Rattle.utf8.specs.States.{step_of}
 use Rattle.format.specs.declared.Answer.TheVariants.{Refused}
-use Rattle.format.specs.declared.Lent.{Lent}
+use Rattle.rows.specs.declared.lent.Lent.{Lent}
 use Rattle.format.specs.declared.Frame.{Frame}
 use Rattle.format.specs.Codes.{task_pairs, task_dynamics, task_dense, task_vector, task_members, task_keys, task_values}
 use Rattle.format.specs.Decide.{give, lost, trait_at, names_to, strings_to, objects_to, traits_to, marker, classed, object_class, counted, key_end, old_text}
@@ -306,13 +307,13 @@ pop-lost (outer_frame {f = f} {ts = ts} {c = c} {d = d} {m = m} {k = k} q s) h =
 
 module _ (b : ℕ) (ts : List Frame) (c : Cursor) (m : Memory) (h : Room (taken c) m) where
   -- a string by number that strays is 12
-  string-lost : (u : Use) (left part n i : ℕ) → part_of left part b ≡ Whole n → size_of n ≡ Old i → i < c.strings → (SpanIn (span_at m.strings i) c → ⊥)
+  string-lost : (u : Use) (left part n i : ℕ) → part_of left part b ≡ Some (Whole n) → size_of n ≡ Old i → i < c.strings → (SpanIn (span_at m.strings i) c → ⊥)
       → Lostly (act (at_word (text_word u) left part) b ts (taken c) m)
   unfolding act worded string_sized
   string-lost u left part n i e q o f = (zeroed m, rw (e, q, text-lost (taken c) i m.strings h.strings o f))
 
   -- an object by number that strays is 12
-  object-lost : (x : Word) (left part n i : ℕ) → part_of left part b ≡ Whole n → Refers x n i → i < c.objects → (ObjectIn i c m → ⊥)
+  object-lost : (x : Word) (left part n i : ℕ) → part_of left part b ≡ Some (Whole n) → Refers x n i → i < c.objects → (ObjectIn i c m → ⊥)
       → Lostly (act (at_word x left part) b ts (taken c) m)
   unfolding act worded object_shaped body_sized
   object-lost (integer_word row) left part n i e r o f = absurd r
@@ -320,7 +321,7 @@ module _ (b : ℕ) (ts : List Frame) (c : Cursor) (m : Memory) (h : Room (taken 
   object-lost (size_word row body) left part n i e r o f = (zeroed m, rw (e, r, referred-lost (taken c) row i m h o f))
   object-lost (text_word u) left part n i e r o f = absurd r
 
-  module _ (row left part n i : ℕ) (e : part_of left part b ≡ Whole n) (q : shape_of n ≡ Known i) (l : RowIn row c) (r : c.objects < length m.objects) (o : i < c.traits) where
+  module _ (row left part n i : ℕ) (e : part_of left part b ≡ Some (Whole n)) (q : shape_of n ≡ Known i) (l : RowIn row c) (r : c.objects < length m.objects) (o : i < c.traits) where
     -- a trait by number that strays is 12
     trait_lost : (TraitIn (trait_at m.traits i) c → ⊥) → Lostly (act (at_word (object_word row) left part) b ts (taken c) m)
     unfolding act worded object_shaped

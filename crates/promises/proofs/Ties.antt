@@ -11,11 +11,11 @@ use lib.Seq.{length-take-le}
 use Rattle.rows.specs.declared.Cursor.{Cursor}
 use Rattle.rows.specs.Memory.{Memory, loan_fault, rows_fault, rows_most, store_most, row_width, message_limit, col_kind, col_body_begin, col_body_size, col}
 use Rattle.format.specs.declared.Answer.TheVariants.{Finished, Refused}
-use Rattle.format.specs.declared.Lent.{Lent}
-use Rattle.format.specs.declared.Written.TheVariants.{Bytes as Wrote, Unwritten}
+use Rattle.rows.specs.declared.lent.Lent.{Lent}
+use Rattle.std.specs.Prelude.{Ok, Err}
 use Rattle.format.specs.Reading.{finished, refused, reading}
 use Rattle.format.specs.Step.{State, run, end, begin}
-use Rattle.format.specs.Answers.{read, read_of, read_call, output, written_of, write_call, text_call}
+use Rattle.format.specs.Answers.{read, read_of, read_call, output, written_of, refusal_of, write_call, text_call}
 use Rattle.format.specs.Unfold.{home, part}
 use Rattle.format.specs.RowTest.{has_text}
 use Rattle.format.specs.Text.{text_span, text_or}
@@ -83,12 +83,12 @@ finished-lent m bs c k e = lent_able (run (begin m) bs) (able_along m bs) (feedi
 -- ---- write
 
 -- an accepted writing: the bytes reported, and the output
-pub write-accepted : (R B out P : List ℕ) (n : ℕ) → writing R B out ≡ written n P → write_call R B out ≡ output (Wrote n) P
+pub write-accepted : (R B out P : List ℕ) (n : ℕ) → writing R B out ≡ written n P → write_call R B out ≡ output (Ok n) P
 unfolding write_call
 write-accepted R B out P n e = ap written_of e
 
 -- a refused one
-pub write-refused : (R B out P : List ℕ) (n told place : ℕ) → writing R B out ≡ unwritten n told place P → write_call R B out ≡ output (Unwritten n told place) P
+pub write-refused : (R B out P : List ℕ) (n told place : ℕ) → writing R B out ≡ unwritten n told place P → write_call R B out ≡ output (Err (refusal_of n told place)) P
 unfolding write_call
 write-refused R B out P n told place e = ap written_of e
 

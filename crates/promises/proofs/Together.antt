@@ -8,7 +8,7 @@ use borrow.Author.Tests.{eqb-true}
 use Rattle.rows.specs.declared.Cursor.{Cursor}
 use Rattle.rows.specs.Memory.{Memory, fault_of, zeroed, message_limit}
 use Rattle.format.specs.declared.Answer.TheVariants.{Refused}
-use Rattle.format.specs.declared.Lent.{Lent}
+use Rattle.rows.specs.declared.lent.Lent.{Lent}
 use Rattle.format.specs.declared.Frame.{Frame}
 use Rattle.format.specs.Reading.{refused, taken}
 use Rattle.format.specs.Step.{Mode, wait, over, act}

@@ -14,7 +14,7 @@ use Rattle.wire.proofs.Octets.{Bytes}
 use Rattle.wire.proofs.Big.{bytes_below}
 use Rattle.wire.proofs.U29.{u29-bytes}
 use Rattle.format.specs.declared.Answer.TheVariants.{Finished}
-use Rattle.format.specs.declared.Written.TheVariants.{Bytes as Written}
+use Rattle.std.specs.Prelude.{Ok}
 use Rattle.format.specs.Standard.{null, boolean, Tree, plain, array, object, object_vector, dictionary, text_bytes, size_bytes, name_bytes, flag_byte}
 use Rattle.format.specs.Standard.{class_bytes, encode_plain, array_head, object_head, vector_head, dictionary_head, encode, encode_trees, encode_pairs}
 use Rattle.format.specs.Standard.{encode_values, encode_dynamic, encode_entries}
@@ -226,7 +226,7 @@ again m bs n t o r =
     }
 
 -- an accepted write of a store of bytes and rows of 64-bit numbers
-module _ (R B out P : List ℕ) (n : ℕ) (wide : Wide R) (store : Bytes B) (accepts : write_call R B out ≡ output (Written n) P) where
+module _ (R B out P : List ℕ) (n : ℕ) (wide : Wide R) (store : Bytes B) (accepts : write_call R B out ≡ output (Ok n) P) where
   wrote : writing R B out ≡ written n P
   wrote = call-wrote R B out P n accepts
 

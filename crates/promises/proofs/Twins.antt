@@ -1,5 +1,6 @@
 -- A byte's step beside the same step with no frames around: both wait; both are refused alike, by 12 only where a lookup of the value itself strays; or the value is
 -- finished, and the frames go on from there.
+use Rattle.std.proofs.Common.{Option, Some, None}
 use mathlib.Core.Path.{◌≡◌, refl, sym, ap, ◌∙◌}
 use mathlib.Core.Bool.{Bool, true, false, cond, not}
 use mathlib.Core.Logic.{◌≢◌}
@@ -17,7 +18,7 @@ use Rattle.rows.specs.declared.Key.{Key}
 use Rattle.rows.specs.declared.Trait.{Trait}
 use Rattle.rows.specs.Memory.{Memory, span_width, trait_width, open_limit, col_count, col_count2, no_span, span_at}
 use Rattle.wire.specs.declared.Part.{Part}
-use Rattle.wire.specs.declared.Part.TheVariants.{More, Whole, Astray}
+use Rattle.wire.specs.declared.Part.TheVariants.{More, Whole}
 use Rattle.wire.specs.declared.Size.{Size}
 use Rattle.wire.specs.declared.Size.TheVariants.{Old, New}
 use Rattle.wire.specs.declared.Shape.{Shape}
@@ -298,28 +299,28 @@ module _ {w : Watch} (ts : List Frame) where
   -- ---- parts of numbers
 
   -- a part that bytes can give goes on
-  twin_part : (p : Part) (m : Memory) (more more' whole whole' : ℕ → State) → p ≢ Astray → ((n : ℕ) → Twin w ts (more n) (more' n))
-      → ((n : ℕ) → p ≡ Whole n → Twin w ts (whole n) (whole' n)) → Twin w ts (on_part p m more whole) (on_part p m more' whole')
-  twin_part (More n) m more more' whole whole' z f g = f n
-  twin_part (Whole n) m more more' whole whole' z f g = g n refl
-  twin_part Astray m more more' whole whole' z f g = absurd (z refl)
+  twin_part : (p : Option Part) (m : Memory) (more more' whole whole' : ℕ → State) → p ≢ None → ((n : ℕ) → Twin w ts (more n) (more' n))
+      → ((n : ℕ) → p ≡ Some (Whole n) → Twin w ts (whole n) (whole' n)) → Twin w ts (on_part p m more whole) (on_part p m more' whole')
+  twin_part (Some (More n)) m more more' whole whole' z f g = f n
+  twin_part (Some (Whole n)) m more more' whole whole' z f g = g n refl
+  twin_part None m more more' whole whole' z f g = absurd (z refl)
 
 -- a word's part goes on
-word-goes : (left n b : ℕ) → PartIn word_more word_bits left n → part_of left n b ≢ Astray
+word-goes : (left n b : ℕ) → PartIn word_more word_bits left n → part_of left n b ≢ None
 unfolding part_of
 word-goes left n b (h, f) e = of (eqb left 0) (ltb b (2 ^ 7)) _ _ _ (sym (given word_bits word_more left n _ h f) ∙ e)
   where
-    of : (s t : Bool) (i j k : ℕ) → cond s (Whole i) (cond t (Whole j) (More k)) ≢ Astray
+    of : (s t : Bool) (i j k : ℕ) → cond s (Some (Whole i)) (cond t (Some (Whole j)) (Some (More k))) ≢ None
     of true t i j k q = clash cc
     of false true i j k q = clash cc
     of false false i j k q = clash cc
 
 -- a part of eight bytes does
-number-goes : (left n b : ℕ) → PartIn number_more number_bits left n → digit_of left n b ≢ Astray
+number-goes : (left n b : ℕ) → PartIn number_more number_bits left n → digit_of left n b ≢ None
 unfolding digit_of
 number-goes left n b (h, f) e = of (eqb left 0) _ _ (sym (given number_bits number_more left n _ h f) ∙ e)
   where
-    of : (s : Bool) (i j : ℕ) → cond s (Whole i) (More j) ≢ Astray
+    of : (s : Bool) (i j : ℕ) → cond s (Some (Whole i)) (Some (More j)) ≢ None
     of true i j q = clash cc
     of false i j q = clash cc
 
@@ -366,7 +367,7 @@ module _ (b : ℕ) (ts : List Frame) (c : Cursor) (m : Memory) where
   makes-text (table_text (for_name row t more)) s test e r = λ z. makes {row = row} (rw z (by_text e r))
   makes-text (table_text (for_vector row n)) s test e r = tt
 
-  module _ (left part n : ℕ) (e : part_of left part b ≡ Whole n) where
+  module _ (left part n : ℕ) (e : part_of left part b ≡ Some (Whole n)) where
     -- the size of a string
     twin_string : (u : Use) (z : Size) → size_of n ≡ z → Sits (watch (at_word (text_word u) left part)) (taken c) m → UseIn u (taken c)
         → Twin (watch (at_word (text_word u) left part)) ts (string_sized ts u z (taken c) m) (string_sized [] u z (taken c) m)

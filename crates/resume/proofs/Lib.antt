@@ -1,9 +1,7 @@
 pub mod Amounts
-pub mod Classes
 pub mod Decided
+pub mod Moves
 pub mod Popped
-pub mod Refusals
-pub mod Settled
 pub mod Tasks
 pub mod Turns
 pub mod Uses

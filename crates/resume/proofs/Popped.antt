@@ -1,91 +1,96 @@
 -- Values that are finished, one around the other: a turn takes the innermost frame, and the same comes from the others as from all.
-use mathlib.Core.Path.{◌≡◌, refl, sym, ap, ◌∙◌}
-use mathlib.Core.List.{List, []}
-use Prim.Native.Nat.{ℕ, zero, suc, ◌-◌, ◌<◌, ◌≤◌}
-use native.Mathlib.Omega.{arith}
-use lib.ListN.{length}
+use Rattle.std.proofs.Common.{◌≡◌, Result, Ok, Err, List, ℕ, zero, suc, ◌-◌, ◌<◌, ◌≤◌, refl, sym, ap, ◌∙◌, arith}
 use Rattle.rows.specs.declared.Cursor.{Cursor}
-use Rattle.rows.specs.Memory.{Memory, memory}
+use Rattle.rows.specs.Memory.{Memory}
 use Rattle.format.specs.declared.Frame.{Frame}
-use Rattle.format.specs.Step.{Task, task_of, State, go, entry, pop}
+use Rattle.format.specs.declared.Refusal.{Refusal}
+use Rattle.format.specs.declared.Work.{Work}
+use Rattle.format.specs.Step.{task_of, go, entry, pop}
 use Rattle.format.specs.Numbers.{frame_at, frames_of}
-use Rattle.decide.specs.declared.Refusal.{Refusal}
+use Rattle.resume.specs.declared.Feeding.{Feeding}
 use Rattle.resume.specs.declared.Next.{Next}
-use Rattle.resume.specs.declared.Next.TheVariants.{Finished, Refused}
-use Rattle.resume.specs.declared.Entry.{Entry}
-use Rattle.resume.specs.declared.Entry.TheVariants.{On, No}
-use Rattle.resume.specs.Steps.{after, after_of, settled, ended, on_entry}
-use Rattle.resume.proofs.Settled.{refuses, finishes}
-use Rattle.resume.proofs.Turns.{goes_on, went, went-frames}
+use Rattle.resume.specs.declared.Next.TheVariants.{Wait, Finished}
+use Rattle.resume.specs.Steps.{loans_of, after_of, settled, given, Same, Steps, Goes, Enters, ended}
+use Rattle.resume.proofs.Moves.{Fails, failed, both_same, kept, is_over}
+use Rattle.resume.proofs.Turns.{goes_on, goes_out, went}
 
--- with n frames still open
-pub record Popped (R₀ N F₀ : List ℕ) (depth : ℕ) (c₀ : Cursor) (R F : List ℕ) (n : ℕ) (c : Cursor) : Type 0 where
-  pub most : n ≤ depth
-  pub rows : length R ≡ length R₀
-  pub frames : F ≡ F₀
-  pub left : (B T O U : List ℕ) → pop (frames_of F₀ depth) c₀ (memory R₀ B T O U N) ≡ pop (frames_of F₀ n) c (memory R B T O U N)
+-- from f, of which fewer values are open, comes what came from f₀
+pub record Popped (f₀ f : Feeding) : Type 0 where
+  pub most : f.depth ≤ f₀.depth
+  pub frames : f.frames.now ≡ f₀.frames.now
+  pub same : Same f₀ f
+  pub left : pop (frames_of f₀.frames.now f₀.depth) f₀.cursor (loans_of f₀) ≡ pop (frames_of f.frames.now f.depth) f.cursor (loans_of f)
 
--- the frames around the innermost of n
-abbrev outer : List ℕ → ℕ → List Frame
-outer F n = frames_of F (n - 1)
+-- at the beginning
+pub unpopped : (f : Feeding) → Popped f f
+unpopped f = record { most = omega arith; frames = refl; same = kept f; left = refl }
+
+-- one value less is open
+abbrev pub less : Feeding → Feeding
+less f = record f { depth = f.depth - 1 }
+
+-- the answer from f is that from f₀
+pub popped_on : {f₀ f g : Feeding} {x : Result Next Refusal} → Popped f₀ f → Steps x f g pop → Steps x f₀ g pop
+popped_on {f₀} {f} {g} {x} P S =
+    record { turn = rw P.left (S.turn ∙ ap (λ F. after_of F (pop (frames_of f.frames.now f.depth) f.cursor (loans_of f))) P.frames); same = both_same f₀ f g P.same S.same }
+
+-- none is open
+pub none_left : {f : Feeding} → f.depth ≤ 0 → Steps (Ok Finished) f f pop
+unfolding pop frames_of
+none_left {f} h = let z : f.depth ≡ 0 = omega arith in record { turn = rw z (is_over {f = f}).turn; same = kept f }
 
 pop-entry : (F : List ℕ) (n : ℕ) (c : Cursor) (m : Memory) → 0 < n
-    → pop (frames_of F n) c m ≡ entry (task_of (frame_at F (n - 1))) c m (λ t. go (pop (outer F n)) (outer F n) t)
+    → pop (frames_of F n) c m ≡ entry (task_of (frame_at F (n - 1))) c m (λ t. go (pop (frames_of F (n - 1))) (frames_of F (n - 1)) t)
 unfolding pop frames_of
 pop-entry F zero c m h = absurd (omega arith)
 pop-entry F (suc n) c m h = let d : suc n - 1 ≡ n = omega arith in rw d
 
-module _ (R₀ N F₀ : List ℕ) (depth : ℕ) (c₀ : Cursor) (R F : List ℕ) (n : ℕ) (c : Cursor) (i : Popped R₀ N F₀ depth c₀ R F n c) where
-  -- no frame is left
-  pub popped : (B T O U : List ℕ) → n ≤ 0 → settled (after (Finished c) F (memory R B T O U N)) ≡ after_of F₀ (pop (frames_of F₀ depth) c₀ (memory R₀ B T O U N))
-  unfolding pop frames_of
-  popped B T O U h =
-      let z : n ≡ 0 = omega arith in
-      rw i.frames (finishes F₀ c (memory R B T O U N) _ (i.left B T O U ∙ ap (λ n. pop (frames_of F₀ n) c (memory R B T O U N)) z))
+module _ {f g : Feeding} (h : 0 < f.depth) where
+  -- the innermost value's entry is finished
+  turned : {x : Result Frame Refusal} → Enters x (less f) g (entry (task_of (frame_at f.frames.now (f.depth - 1))))
+      → pop (frames_of f.frames.now f.depth) f.cursor (loans_of f)
+      ≡ given x g (λ t. go (pop (frames_of g.frames.now g.depth)) (frames_of g.frames.now g.depth) (task_of t))
+  turned {x} E =
+      pop-entry f.frames.now f.depth f.cursor (loans_of f) h
+      ∙ sym (E.gave (λ t. go (pop (frames_of f.frames.now (f.depth - 1))) (frames_of f.frames.now (f.depth - 1)) t))
+      ∙ rw (E.inside.frames, E.inside.depth)
 
-  -- the innermost frame, its entry finished
-  module _ (h : 0 < n) (f : Frame) (p : f ≡ frame_at F (n - 1)) (R₁ : List ℕ) (x : Entry)
-      (E : (B T O U N : List ℕ) (k : Task → Cursor → Memory → State) → on_entry x (memory R₁ B T O U N) k ≡ entry (task_of f) c (memory R B T O U N) k) where
-    turned : (B T O U : List ℕ)
-        → pop (frames_of F₀ depth) c₀ (memory R₀ B T O U N) ≡ on_entry x (memory R₁ B T O U N) (λ t. go (pop (outer F₀ n)) (outer F₀ n) t)
-    turned B T O U =
-        i.left B T O U
-        ∙ pop-entry F₀ n c (memory R B T O U N) h
-        ∙ ap (λ f. entry (task_of f) c (memory R B T O U N) (λ t. go (pop (outer F₀ n)) (outer F₀ n) t)) (sym (p ∙ ap (λ F. frame_at F (n - 1)) i.frames))
-        ∙ sym (E B T O U N (λ t. go (pop (outer F₀ n)) (outer F₀ n) t))
+  -- it can't be
+  pub not_entered : {x : Result Next Refusal} {y : Refusal} → Enters (Err y) (less f) g (entry (task_of (frame_at f.frames.now (f.depth - 1)))) → Fails x y
+      → Steps x f g pop
+  unfolding settled after_of
+  not_entered {x} {y} E q = record { turn = rw (failed x y q, turned E, E.inside.frames); same = both_same f (less f) g (kept f) E.inside.same }
 
-    pub entry-refused : (B T O U : List ℕ) (r y : Refusal) → x ≡ No y → r ≡ y
-        → settled (after (Refused r) F (memory R₁ B T O U N)) ≡ after_of F₀ (pop (frames_of F₀ depth) c₀ (memory R₀ B T O U N))
-    entry-refused B T O U r y e q =
-        rw i.frames (refuses F₀ (memory R₁ B T O U N) (memory R₁ B T O U N) r y _ refl q
-        (turned B T O U ∙ ap (λ x. on_entry x (memory R₁ B T O U N) (λ t. go (pop (outer F₀ n)) (outer F₀ n) t)) e))
+  module _ {t : Frame} (E : Enters (Ok t) (less f) g (entry (task_of (frame_at f.frames.now (f.depth - 1))))) where
+    -- its task goes on, and so does all
+    entered : {k : Feeding} {x : Result Next Refusal} → Steps x g k (λ ts. go (pop ts) ts (task_of t)) → Steps x f k pop
+    entered {k} {x} S =
+        record {
+          turn = rw (turned E) (S.turn ∙ ap (λ F. after_of F (go (pop (frames_of g.frames.now g.depth)) (frames_of g.frames.now g.depth) (task_of t) g.cursor (loans_of g))) E.inside.frames);
+          same = both_same f g k E.inside.same S.same;
+        }
 
-    -- its task goes on
-    module _ (g : Frame) (c₁ : Cursor) (e : x ≡ On g c₁) (a : Next) (F' R₂ : List ℕ)
-        (G : (B T O U : List ℕ) → settled (after a F' (memory R₂ B T O U N)) ≡ after_of F (go ended (outer F n) (task_of g) c₁ (memory R₁ B T O U N))) where
-      went_on : (B T O U : List ℕ) → pop (frames_of F₀ depth) c₀ (memory R₀ B T O U N) ≡ go (pop (outer F₀ n)) (outer F₀ n) (task_of g) c₁ (memory R₁ B T O U N)
-      went_on B T O U = turned B T O U ∙ ap (λ x. on_entry x (memory R₁ B T O U N) (λ t. go (pop (outer F₀ n)) (outer F₀ n) t)) e
+    pub task-waits : {k : Feeding} {w : Work} → Goes (Ok (Wait w)) g k (λ ts. go ended ts (task_of t)) → Steps (Ok (Wait w)) f k pop
+    task-waits G = entered (goes_on (task_of t) G)
 
-      over₀ : (B T O U : List ℕ) → settled (after a F' (memory R₂ B T O U N)) ≡ after_of F₀ (go ended (outer F₀ n) (task_of g) c₁ (memory R₁ B T O U N))
-      over₀ B T O U = G B T O U ∙ ap (λ F. after_of F (go ended (outer F n) (task_of g) c₁ (memory R₁ B T O U N))) i.frames
+    pub task-out : {k : Feeding} {x : Result Next Refusal} {y : Refusal} → Goes (Err y) g k (λ ts. go ended ts (task_of t)) → Fails x y → Steps x f k pop
+    task-out G q = entered (goes_out (task_of t) G q)
 
-      pub task-waits : (B T O U : List ℕ) → ((x : Cursor) → a ≡ Finished x → ⊥)
-          → settled (after a F' (memory R₂ B T O U N)) ≡ after_of F₀ (pop (frames_of F₀ depth) c₀ (memory R₀ B T O U N))
-      task-waits B T O U k =
-          goes_on F₀ F' (memory R₁ B T O U N) (memory R₂ B T O U N) (outer F₀ n) (task_of g) c₁ a (pop (outer F₀ n)) k (over₀ B T O U)
-          ∙ ap (after_of F₀) (sym (went_on B T O U))
+    -- or its value is finished too
+    pub task-finished : {k : Feeding} → Goes (Ok Finished) g k (λ ts. go ended ts (task_of t)) → Popped f k
+    task-finished {k} G =
+        record {
+          most = (let a : k.depth ≡ g.depth = G.depth refl in let b : g.depth ≡ f.depth - 1 = E.inside.depth in omega arith);
+          frames = sym (went (task_of t) G).0 ∙ E.inside.frames;
+          same = both_same f g k E.inside.same G.steps.same;
+          left = turned E ∙ (went (task_of t) G).1;
+        }
 
-      pub task-finished : (c₂ : Cursor) → a ≡ Finished c₂ → length R₂ ≡ length R₀ → Popped R₀ N F₀ depth c₀ R₂ F' (n - 1) c₂
-      task-finished c₂ q l =
-          record {
-            most = (let m : n ≤ depth = i.most in omega arith);
-            rows = l;
-            frames = went-frames F₀ F' (memory R₁ [] [] [] [] N) (memory R₂ [] [] [] [] N) (outer F₀ n) (task_of g) c₁ c₂ (done [] [] [] []);
-            left = λ B T O U.
-                went_on B T O U
-                ∙ went F₀ F' (memory R₁ B T O U N) (memory R₂ B T O U N) (outer F₀ n) (task_of g) c₁ c₂ (done B T O U) (pop (outer F₀ n));
-          }
-        where
-          done : (B T O U : List ℕ)
-              → settled (after (Finished c₂) F' (memory R₂ B T O U N)) ≡ after_of F₀ (go ended (outer F₀ n) (task_of g) c₁ (memory R₁ B T O U N))
-          done B T O U = ap (λ a. settled (after a F' (memory R₂ B T O U N))) (sym q) ∙ over₀ B T O U
+pub popped_more : {f₀ f g : Feeding} → Popped f₀ f → Popped f g → Popped f₀ g
+popped_more {f₀} {f} {g} P Q =
+    record {
+      most = (let a : f.depth ≤ f₀.depth = P.most in let b : g.depth ≤ f.depth = Q.most in omega arith);
+      frames = Q.frames ∙ P.frames;
+      same = both_same f₀ f g P.same Q.same;
+      left = P.left ∙ Q.left;
+    }

@@ -10,9 +10,14 @@ use Rattle.format.specs.Decide.{Out, stop, give, on_rows, looking, closed, seale
 use Rattle.format.specs.Reading.{finished, refused}
 use Rattle.format.specs.Step.{Task, pairs_of, items_of, members_of, keys_of, values_of, strange, State, wait, over, none, on, go, pop}
 use Rattle.format.specs.Numbers.{frames_of}
+use Rattle.std.specs.Prelude.{Result, Ok, Err}
+use Rattle.format.specs.declared.Refusal.{Refusal}
+use Rattle.format.specs.declared.Work.{Work}
+use Rattle.resume.specs.declared.Feeding.{Feeding}
 use Rattle.resume.specs.declared.Next.{Next}
-use Rattle.resume.specs.declared.Next.TheVariants.{Wait, Finished, Refused}
-use Rattle.resume.specs.Steps.{After, after, after_of, settled, ended}
+use Rattle.resume.specs.declared.Next.TheVariants as next
+use Rattle.resume.specs.Steps.{loans_of, Turn, Wait, Finished, Refused, after, after_of, settled, Steps, Goes, ended}
+use Rattle.resume.proofs.Moves.{Fails, failed, both_same}
 
 -- a state, and what comes after a finished value
 unfoldable then : State → (Cursor → Memory → State) → State
@@ -47,7 +52,7 @@ go-then k ts (values_of row n done) c m = refl
 go-then k ts strange c m = refl
 
 -- an answer that is not finished
-unless : (a : Next) (F F' : List ℕ) (m : Memory) (s : State) (k : Cursor → Memory → State) → ((x : Cursor) → a ≡ Finished x → ⊥)
+unless : (a : Turn) (F F' : List ℕ) (m : Memory) (s : State) (k : Cursor → Memory → State) → ((x : Cursor) → a ≡ Finished x → ⊥)
     → settled (after a F' m) ≡ after_of F s → settled (after a F' m) ≡ after_of F (then s k)
 unfolding settled after_of then
 unless a F F' m (wait x ts c m') k h e = e
@@ -65,26 +70,43 @@ over-finished c' F F' m' (over (finished c m)) e = (cc, cc)
 over-finished c' F F' m' (over (refused n told place m)) e = absurd (let z : ◌≡◌ {A = ℕ} 0 1 = cc in omega arith)
 over-finished c' F F' m' (none m) e = absurd (let z : ◌≡◌ {A = ℕ} 0 1 = cc in omega arith)
 
-module _ (F F' : List ℕ) (m m' : Memory) (ts : List Frame) (t : Task) (c : Cursor) where
+module _ (t : Task) {f g : Feeding} where
   -- a task that waits, or is refused: nothing comes after it
-  pub goes_on : (a : Next) (k : Cursor → Memory → State) → ((x : Cursor) → a ≡ Finished x → ⊥)
-      → settled (after a F' m') ≡ after_of F (go ended ts t c m) → settled (after a F' m') ≡ after_of F (go k ts t c m)
-  goes_on a k h e = unless a F F' m' (go ended ts t c m) k h e ∙ ap (after_of F) (sym (go-then k ts t c m))
+  pub goes_on : {w : Work} → Goes (Ok (next.Wait w)) f g (λ ts. go ended ts t) → Steps (Ok (next.Wait w)) f g (λ ts. go (pop ts) ts t)
+  goes_on {w} G =
+      let ts = frames_of f.frames.now f.depth in
+      record {
+        turn =
+            unless (Wait w g.cursor g.depth) f.frames.now g.frames.now (loans_of g) (go ended ts t f.cursor (loans_of f)) (pop ts)
+            (λ x e. let z : ◌≡◌ {A = ℕ} 0 1 = cc in omega arith) G.steps.turn
+            ∙ ap (after_of f.frames.now) (sym (go-then (pop ts) ts t f.cursor (loans_of f)));
+        same = G.steps.same;
+      }
+
+  pub goes_out : {x : Result Next Refusal} {y : Refusal} → Goes (Err y) f g (λ ts. go ended ts t) → Fails x y → Steps x f g (λ ts. go (pop ts) ts t)
+  goes_out {x} {y} G q =
+      let ts = frames_of f.frames.now f.depth in
+      rw (failed x y q)
+      (record {
+        turn =
+            unless (Refused y) f.frames.now g.frames.now (loans_of g) (go ended ts t f.cursor (loans_of f)) (pop ts)
+            (λ x e. let z : ◌≡◌ {A = ℕ} 0 1 = cc in omega arith) G.steps.turn
+            ∙ ap (after_of f.frames.now) (sym (go-then (pop ts) ts t f.cursor (loans_of f)));
+        same = G.steps.same;
+      })
 
   -- one whose value is finished wrote no frame
-  module _ (c' : Cursor) (e : settled (after (Finished c') F' m') ≡ after_of F (go ended ts t c m)) where
-    pub went : (k : Cursor → Memory → State) → go k ts t c m ≡ k c' m'
+  module _ (G : Goes (Ok next.Finished) f g (λ ts. go ended ts t)) where
+    pub went : (f.frames.now ≡ g.frames.now) × (go (pop (frames_of f.frames.now f.depth)) (frames_of f.frames.now f.depth) t f.cursor (loans_of f)
+        ≡ pop (frames_of g.frames.now g.depth) g.cursor (loans_of g))
     unfolding then
-    went k = go-then k ts t c m ∙ ap (λ s. then s k) (over-finished c' F F' m' (go ended ts t c m) e).1
+    went =
+        let ts = frames_of f.frames.now f.depth in
+        let p = over-finished g.cursor f.frames.now g.frames.now (loans_of g) (go ended ts t f.cursor (loans_of f)) G.steps.turn in
+        let e : go (pop ts) ts t f.cursor (loans_of f) ≡ pop ts g.cursor (loans_of g) =
+        go-then (pop ts) ts t f.cursor (loans_of f) ∙ ap (λ s. then s (pop ts)) p.1 in
+        (sym p.0, rw (p.0, G.depth refl) e)
 
-    pub went-frames : F' ≡ F
-    went-frames = (over-finished c' F F' m' (go ended ts t c m) e).0
-
--- a task whose value is finished, and then those around it
-pub goes_after : (F F' : List ℕ) (depth : ℕ) (m m' : Memory) (t : Task) (c : Cursor) (a : Next) (c' : Cursor) (r : After) → a ≡ Finished c'
-    → settled (after a F' m') ≡ after_of F (go ended (frames_of F depth) t c m) → r ≡ after_of F' (pop (frames_of F' depth) c' m')
-    → r ≡ after_of F (go (pop (frames_of F depth)) (frames_of F depth) t c m)
-goes_after F F' depth m m' t c a c' r p e q =
-    let e' : settled (after (Finished c') F' m') ≡ after_of F (go ended (frames_of F depth) t c m) = ap (λ a. settled (after a F' m')) (sym p) ∙ e in
-    q ∙ ap (λ F. after_of F (pop (frames_of F depth) c' m')) (went-frames F F' m m' (frames_of F depth) t c c' e')
-    ∙ ap (after_of F) (sym (went F F' m m' (frames_of F depth) t c c' e' (pop (frames_of F depth))))
+    -- and then come those around it
+    pub goes_after : {x : Result Next Refusal} {h : Feeding} → Steps x g h pop → Steps x f h (λ ts. go (pop ts) ts t)
+    goes_after {x} {h} S = record { turn = rw went.1 (S.turn ∙ ap (λ F. after_of F (pop (frames_of g.frames.now g.depth) g.cursor (loans_of g))) (sym went.0)); same = both_same f g h G.steps.same S.same }

@@ -1,3 +1,2 @@
-pub mod Fill
-pub mod Part
 pub mod RowColumns
+pub mod Parts

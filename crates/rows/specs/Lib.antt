@@ -1,2 +1,3 @@
-pub mod Memory
 pub mod Kinds
+pub mod Lent
+pub mod Memory

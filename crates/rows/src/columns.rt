@@ -1,4 +1,5 @@
 // The columns of a row.
+// Numbers, not a struct: rows are numbers that C lends, and a loan holds any of them.
 
 pub const KIND: usize = 0;
 

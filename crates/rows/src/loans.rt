@@ -1,4 +1,5 @@
 // The loans, by number; the output counts as the seventh.
+// Numbers, not an enum: refusals 1 and 10 tell C the loan by its number.
 
 pub const ROWS: usize = 1;
 

@@ -14,7 +14,7 @@ use Rattle.rows.specs.Memory.{Memory, memory, message_limit, zeroed, put, row_us
 use Rattle.utf8.specs.Grammar.{valid_text}
 use Rattle.utf8.specs.States.{step_of, fold_of}
 use Rattle.utf8.proofs.Fold.{fold_valid}
-use Rattle.decide.specs.declared.Refusal.{Refusal}
+use Rattle.format.specs.declared.Refusal.{Refusal}
 use Rattle.decide.specs.Outcomes.{stopped}
 use Rattle.format.specs.Decide.{give, Width, width_of, on_rows, grown}
 use Rattle.format.specs.Reading.{Reader, ok, taken, fill, chars, filled, chars_of, ret, by, ◌>>=◌}

@@ -10,7 +10,7 @@ use Rattle.rows.specs.declared.Key.{Key}
 use Rattle.rows.specs.declared.Trait.{Trait}
 use Rattle.rows.specs.Memory.{Memory, memory}
 use Rattle.wire.specs.Put.{With1, with1}
-use Rattle.decide.specs.declared.Refusal.{Refusal}
+use Rattle.format.specs.declared.Refusal.{Refusal}
 use Rattle.decide.specs.Outcomes.{leaving, stopped}
 use Rattle.format.specs.Decide as d
 use Rattle.format.specs.Decide.{Out, stop, give, lift, looking, on_rows, on_store, on_strings, on_objects, on_traits, on_names}

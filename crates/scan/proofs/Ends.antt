@@ -12,7 +12,7 @@ use lib.ListN.{length, get_or, drop, drop_of_length-le}
 use lib.Seq.{drop-cons}
 use Rattle.rows.specs.declared.Cursor.{Cursor}
 use Rattle.rows.specs.Memory.{Memory, message_limit}
-use Rattle.decide.specs.declared.Refusal.{Refusal}
+use Rattle.format.specs.declared.Refusal.{Refusal}
 use Rattle.decide.specs.Outcomes.{stopped}
 use Rattle.format.specs.Decide.{give}
 use Rattle.format.specs.Reading.{Result, ok, bad, byte, taken}

@@ -1,7 +1,8 @@
+pub mod Bounds
 pub mod Copies
 pub mod Does
 pub mod Ends
-pub mod Loops
+pub mod Laws
 pub mod Reserves
 pub mod Sizes
 pub mod Stays

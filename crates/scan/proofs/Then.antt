@@ -5,7 +5,7 @@ use Prim.Native.Nat.{ℕ}
 use lib.ListN.{length-replicate, drop}
 use Rattle.rows.specs.declared.Cursor.{Cursor}
 use Rattle.rows.specs.Memory.{Memory, zeroed}
-use Rattle.decide.specs.declared.Refusal.{Refusal}
+use Rattle.format.specs.declared.Refusal.{Refusal}
 use Rattle.decide.specs.Outcomes.{stopped}
 use Rattle.format.specs.Decide.{Out, give}
 use Rattle.format.specs.Reading.{Result, ok, bad, Reader, bind, ◌>>=◌, ret}

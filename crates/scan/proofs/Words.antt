@@ -13,9 +13,7 @@ use lib.Seq.{slice, slice-cons, slice_empty, get_or-drop}
 use Rattle.rows.specs.declared.Cursor.{Cursor}
 use Rattle.rows.specs.Memory.{Memory, message_limit, zeroed}
 use Rattle.wire.specs.declared.Part.{Part}
-use Rattle.wire.specs.declared.Part.TheVariants.{More, Whole, Astray}
-use Rattle.wire.specs.declared.Read.{Read}
-use Rattle.wire.specs.declared.Read.TheVariants.{Value, Short}
+use Rattle.wire.specs.declared.Part.TheVariants.{More, Whole}
 use Rattle.wire.specs.U29.{part_of, go_on, rest_of}
 use Rattle.wire.specs.Big.{number_of, number_at}
 use Rattle.wire.proofs.Octets.{Bytes}
@@ -26,32 +24,33 @@ use Rattle.wire.proofs.Round.{u29-below}
 use Rattle.format.specs.Reading.{Reader, ok, byte, taken, u29, number, on_part, bind, by}
 use Rattle.format.specs.Decide.{lost}
 use Rattle.format.proofs.Tests.{clash}
-use Rattle.scan.specs.declared.Number.{Number}
-use Rattle.scan.specs.declared.Number.TheVariants as number
-use Rattle.scan.specs.Reads.{result, cleared, reads, number_in, within_of, short_at, moved_to}
+use Rattle.std.specs.Prelude.{Option, Some, None, Result as Answer, Ok, Err, IfOk}
+use Rattle.format.specs.declared.Refusal.{Refusal}
+use Rattle.decide.specs.Outcomes.{out_of}
+use Rattle.scan.specs.Reads.{result, cleared, reads, within_of, short_at, moved_to}
 use Rattle.scan.proofs.Ends.{Next, there, over, next, byte-there, byte-over, short-next, refusing}
 
 -- ---- a U29
 
 -- what begins past the limit is too long
-rest_over : (len : ℕ) (c : Cursor) (bs : List ℕ) (left n at : ℕ) → message_limit ≤ at → within_of len c (rest_of left n bs at) ≡ number.No (short_at len c.at)
+rest_over : (len : ℕ) (c : Cursor) (bs : List ℕ) (left n at : ℕ) → message_limit ≤ at → within_of len c (rest_of left n bs at) ≡ Err (short_at len c.at)
 unfolding rest_of
 rest_over len c [] left n at h = refl
 rest_over len c (b ∷ bs) left n at h = part (part_of left n b) (λ m. rest_over len c bs (left - 1) m (at + 1) (omega arith))
   where
-    part : (x : Part) → ((m : ℕ) → within_of len c (rest_of (left - 1) m bs (at + 1)) ≡ number.No (short_at len c.at))
-        → within_of len c (go_on (λ m. rest_of (left - 1) m bs (at + 1)) (at + 1) x) ≡ number.No (short_at len c.at)
-    part (More m) f = f m
-    part (Whole m) f = simp (lt-leb (at + 1) message_limit (omega arith))
-    part Astray f = refl
+    part : (x : Option Part) → ((m : ℕ) → within_of len c (rest_of (left - 1) m bs (at + 1)) ≡ Err (short_at len c.at))
+        → within_of len c (go_on (λ m. rest_of (left - 1) m bs (at + 1)) (at + 1) x) ≡ Err (short_at len c.at)
+    part (Some (More m)) f = f m
+    part (Some (Whole m)) f = simp (lt-leb (at + 1) message_limit (omega arith))
+    part None f = refl
 
 -- a cursor one byte further ends at the same place
-within-next : (len : ℕ) (c : Cursor) (x : Read) → c.at < len → c.at < message_limit → within_of len c x ≡ within_of len (taken c) x
-within-next len c Short h g = ap number.No (short-next len c.at h g)
-within-next len c (Value n at) h g = rw (short-next len c.at h g)
+within-next : (len : ℕ) (c : Cursor) (x : Option (ℕ × ℕ)) → c.at < len → c.at < message_limit → within_of len c x ≡ within_of len (taken c) x
+within-next len c None h g = ap Err (short-next len c.at h g)
+within-next len c (Some (n, at)) h g = rw (short-next len c.at h g)
 
 rest-none : (c : Cursor) (s : List ℕ) (left n : ℕ) → (c.at < length s → c.at < message_limit → ⊥)
-    → within_of (length s) c (rest_of left n (drop c.at s) c.at) ≡ number.No (short_at (length s) c.at)
+    → within_of (length s) c (rest_of left n (drop c.at s) c.at) ≡ Err (short_at (length s) c.at)
 rest-none c s left n f = elim (dec_lt c.at (length s)) [
   | no h ↦ rw (rest_end s c.at left n (omega arith))
   | yes h ↦ rest_over (length s) c (drop c.at s) left n c.at (elim (dec_le message_limit c.at) [ yes g ↦ g | no g ↦ absurd (f h (omega arith)) ])
@@ -69,18 +68,18 @@ u29-byte (suc left) n m c bs = refl
 
 -- one that is whole with the byte before `at`
 whole_in : (m : Memory) (c : Cursor) (s : List ℕ) (v : ℕ) → c.at < message_limit
-    → result (number_in (within_of (length s) c (Value v (c.at + 1)))) m s ≡ ok v m (taken c) (drop (suc c.at) s)
+    → result (out_of (within_of (length s) c (Some (v, c.at + 1)))) m s ≡ ok v m (taken c) (drop (suc c.at) s)
 unfolding result
 whole_in m c s v g = rw (le-leb (c.at + 1) message_limit (omega arith), add-one c.at)
 
 module _ (m : Memory) (s : List ℕ) (bytes : Bytes s) where
   -- n is what the bytes before gave, and `left` more may come after the next
   abbrev Reads : ℕ → ℕ → Cursor → Type 0
-  Reads left n c = result (number_in (within_of (length s) c (rest_of left n (drop c.at s) c.at))) m s ≡ cleared (u29 left n m c (drop c.at s))
+  Reads left n c = result (out_of (within_of (length s) c (rest_of left n (drop c.at s) c.at))) m s ≡ cleared (u29 left n m c (drop c.at s))
 
-  part_in : (left n : ℕ) (c : Cursor) {x : Part} → left ≤ 3 → n < 2 ^ (7 * (3 - left)) → c.at < length s → c.at < message_limit → Step left n (get_or s c.at 0) x
+  part_in : (left n : ℕ) (c : Cursor) {x : Option Part} → left ≤ 3 → n < 2 ^ (7 * (3 - left)) → c.at < length s → c.at < message_limit → Step left n (get_or s c.at 0) x
       → ((k v : ℕ) → left ≡ suc k → v < 2 ^ (7 * (3 - k)) → Reads k v (taken c))
-      → result (number_in (within_of (length s) c (go_on (λ v. rest_of (left - 1) v (drop (c.at + 1) s) (c.at + 1)) (c.at + 1) x))) m s
+      → result (out_of (within_of (length s) c (go_on (λ v. rest_of (left - 1) v (drop (c.at + 1) s) (c.at + 1)) (c.at + 1) x))) m s
       ≡ cleared (on_part (behind left) x m (taken c) (drop (suc c.at) s))
   unfolding cleared
   part_in left n c w f h g (astray a) go = absurd (a w f)
@@ -109,22 +108,21 @@ module _ (m : Memory) (s : List ℕ) (bytes : Bytes s) where
       (λ k v e small. let q : k ≡ left = omega arith in rw q (word_in left v (taken c) (omega arith) (rw q at small)))
       (next (length s) c.at)
 
-  pub reads_word : (c : Cursor) {x : Number} {r : Read} → x ≡ within_of (length s) c r → r ≡ rest_of 3 0 (drop c.at s) c.at → result (number_in x) m s ≡ reads (u29 3 0) m c s
+  pub reads_word : (c : Cursor) {x : Answer (ℕ × Cursor) Refusal} {r : Option (ℕ × ℕ)} → x ≡ within_of (length s) c r → r ≡ rest_of 3 0 (drop c.at s) c.at → result (out_of x) m s ≡ reads (u29 3 0) m c s
   unfolding reads
   reads_word c e q = rw (e, q) (word_in 3 0 c (lit≤ tt) (lit< tt))
 
 bytes-behind : (s : List ℕ) (at : ℕ) → Bytes s → Bytes (drop at s)
 bytes-behind s at h i = rw (get_or-drop at s i 0) (h (at + i))
 
-pub word_below : (c : Cursor) (s : List ℕ) {x : Number} (r : Read) → Bytes s → x ≡ within_of (length s) c r → r ≡ rest_of 3 0 (drop c.at s) c.at
-    → (n : ℕ) (c' : Cursor) → x ≡ number.Whole n c' → n < 2 ^ 29
-word_below c s Short h e q n c' p = clash cc
-word_below c s (Value v at) h e q n c' p =
-    rw (← same (leb at message_limit) (sym e ∙ p)) (u29-below (drop c.at s) c.at v at (bytes-behind s c.at h) (sym q))
+pub word_below : (c : Cursor) (s : List ℕ) {x : Answer (ℕ × Cursor) Refusal} (r : Option (ℕ × ℕ)) → Bytes s → x ≡ within_of (length s) c r → r ≡ rest_of 3 0 (drop c.at s) c.at
+    → IfOk x (λ p. p.0 < 2 ^ 29)
+word_below c s None h e q = rw e tt
+word_below c s (Some (v, at)) h e q = rw e (chosen (leb at message_limit))
   where
-    same : (t : Bool) → cond t (number.Whole v (moved_to c at)) (number.No (short_at (length s) c.at)) ≡ number.Whole n c' → v ≡ n
-    same true d = cc
-    same false d = clash cc
+    chosen : (t : Bool) → IfOk (cond {A = Answer (ℕ × Cursor) Refusal} t (Ok (v, moved_to c at)) (Err (short_at (length s) c.at))) (λ p. p.0 < 2 ^ 29)
+    chosen true = u29-below (drop c.at s) c.at v at (bytes-behind s c.at h) (sym q)
+    chosen false = tt
 
 -- ---- a number of eight bytes
 
@@ -162,7 +160,7 @@ module _ (m : Memory) (s : List ℕ) (bytes : Bytes s) where
     | over z ↦ rw (byte-over m c s z)
   ]
 
-  pub reads-eight : (c : Cursor) {x : Number} {r : Read} → x ≡ within_of (length s) c r → r ≡ number_at 8 s c.at → result (number_in x) m s ≡ reads (number 7 0) m c s
+  pub reads-eight : (c : Cursor) {x : Answer (ℕ × Cursor) Refusal} {r : Option (ℕ × ℕ)} → x ≡ within_of (length s) c r → r ≡ number_at 8 s c.at → result (out_of x) m s ≡ reads (number 7 0) m c s
   unfolding reads number_at result cleared
   reads-eight c e q = rw (e, q) (elim (dec_le (c.at + 8) (length s)) [
     | no h ↦ rw (lt-leb (c.at + 8) (length s) (omega arith)) (sym (number_short 7 0 c (lit≤ tt) (lit< tt) (λ x y. omega arith)))

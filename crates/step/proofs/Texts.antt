@@ -13,7 +13,6 @@ use Rattle.format.specs.declared.Work.{Work}
 use Rattle.format.specs.Decide.{on_store, stored}
 use Rattle.format.specs.Step.{Text, State, wait, on, broken, at_text, text_done, act}
 use Rattle.format.specs.Numbers.{no_work, work_of, with_text}
-use Rattle.resume.specs.Steps.{After, after_of}
 use Rattle.states.specs.Purposes.{IsText}
 use Rattle.states.proofs.Purposes.{text_of, texts}
 
@@ -37,19 +36,17 @@ module _ (w : Work) (h : IsText w) where
   pub text-work-of : (left part : ℕ) → with_text no_work w (λ y. work_of (at_text y w.span left part)) ≡ work_of (at_text (text_of w) w.span left part)
   text-work-of left part = texts no_work w (λ y. work_of (at_text y w.span left part)) h
 
-  module _ (F : List ℕ) (ts : List Frame) (x : After) (c : Cursor) (m : Memory) where
-    pub text-stored : (b t : ℕ) → t ≡ step_of w.part b
-        → x ≡ after_of F (on (on_store (stored w.span w.left b) m c) m (after_text ts (text_of w) w.span w.left t))
-        → x ≡ after_of F (with_text (broken m) w (λ y. act (at_text y w.span w.left w.part) b ts c m))
-    text-stored b t e q =
-        q ∙ ap (λ t. after_of F (on (on_store (stored w.span w.left b) m c) m (after_text ts (text_of w) w.span w.left t))) e
-        ∙ ap (after_of F) (sym (texts (broken m) w (λ y. act (at_text y w.span w.left w.part) b ts c m) h ∙ text-act ts (text_of w) w.span w.left w.part b c m))
+  pub text-stored : (b : ℕ) (ts : List Frame) (c : Cursor) (m : Memory)
+      → with_text (broken m) w (λ y. act (at_text y w.span w.left w.part) b ts c m)
+      ≡ on (on_store (stored w.span w.left b) m c) m (after_text ts (text_of w) w.span w.left (step_of w.part b))
+  text-stored b ts c m =
+      texts (broken m) w (λ y. act (at_text y w.span w.left w.part) b ts c m) h ∙ text-act ts (text_of w) w.span w.left w.part b c m
 
-    pub text-last : (t : ℕ) → w.left ≡ 0 → x ≡ after_of F (with_text (broken m) w (λ y. text_done ts y w.span (eqb t 0) c m))
-        → x ≡ after_of F (after_text ts (text_of w) w.span w.left t tt c m)
-    unfolding after_text
-    text-last t e q = rw e (q ∙ ap (after_of F) (texts (broken m) w (λ y. text_done ts y w.span (eqb t 0) c m) h))
+  pub text-last : (t : ℕ) → w.left ≡ 0 → (ts : List Frame) (c : Cursor) (m : Memory)
+      → after_text ts (text_of w) w.span w.left t tt c m ≡ with_text (broken m) w (λ y. text_done ts y w.span (eqb t 0) c m)
+  unfolding after_text
+  text-last t e ts c m = rw e (sym (texts (broken m) w (λ y. text_done ts y w.span (eqb t 0) c m) h))
 
-    pub text-more : (t : ℕ) → (w.left ≡ 0 → ⊥) → x ≡ after_of F (wait (at_text (text_of w) w.span (w.left - 1) t) ts c m)
-        → x ≡ after_of F (after_text ts (text_of w) w.span w.left t tt c m)
-    text-more t l q = q ∙ ap (after_of F) (sym (text-after ts (text_of w) w.span w.left t c m l))
+  pub text-more : (t : ℕ) → (w.left ≡ 0 → ⊥) → (ts : List Frame) (c : Cursor) (m : Memory)
+      → after_text ts (text_of w) w.span w.left t tt c m ≡ wait (at_text (text_of w) w.span (w.left - 1) t) ts c m
+  text-more t l ts c m = text-after ts (text_of w) w.span w.left t c m l

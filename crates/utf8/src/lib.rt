@@ -22,54 +22,39 @@ pub const BROKEN: usize = 8;
 // The first byte that is no character by itself. Those before it are plain, class 0: between characters they move to there, so that nothing is looked up.
 const PAST_PLAIN: u8 = 0x80;
 
-// A byte as a number.
-fn wide(x: u8) -> usize
-    ensures { result ≡ x }
-{
-    x as usize
-}
-
 // The move by the tables in hand, two lookups: the byte's class, then the state's move for it.
 fn moved(c: &Classes, m: &Moves, k: usize, b: u8) -> usize
     requires { (k ≤ text_broken) × (at_octet 0 c.now b < line_width) }
     ensures { result ≡ looked_up c.now m.now k b }
 {
-    let octet = b as usize;
-    let class = wide(c[octet / LINE][octet % LINE]);
-    wide(m[k][class])
+    let octet = usize::from(b);
+    let class = usize::from(c[octet / LINE][octet % LINE]);
+    usize::from(m[k][class])
 }
 
 // How many plain bytes stand first, between characters; from any other state none. What is left leads to the same state, so a plain piece needs no table.
 fn plain(k: usize, s: &[u8]) -> usize
     ensures { (result ≤ length s.now) × (fold_of k (drop result s.now) ≡ fold_of k s.now) }
 {
-    let mut i = 0;
-    while i < s.len() {
-        if k != BETWEEN || PAST_PLAIN <= s[i] {
-            return i;
-        }
-        i += 1;
+    if k != BETWEEN {
+        return 0;
     }
-    i
+    s.iter().position(|b| PAST_PLAIN <= *b).unwrap_or(s.len())
 }
 
-// The state after what is left of a piece from `from` on. No other function names the tables, and this one does before its loop.
-fn run_on(k: usize, s: &[u8], from: usize) -> usize
-    requires { (k ≤ text_broken) × (from ≤ length s.now) }
-    ensures { result ≡ fold_of k (drop from s.now) }
+// The state after what is left of a piece. No other function names the tables, and this one does before its loop.
+fn run_on(k: usize, rest: &[u8]) -> usize
+    requires { k ≤ text_broken }
+    ensures { result ≡ fold_of k rest.now }
 {
     let c = CLASSES;
     let m = MOVES;
     let mut at = k;
-    let mut i = from;
-    while i < s.len() {
-        let b = s[i];
-        if at == BETWEEN && b < PAST_PLAIN {
-            i += 1;
+    for b in rest {
+        if at == BETWEEN && *b < PAST_PLAIN {
             continue;
         }
-        at = moved(&c, &m, at, b);
-        i += 1;
+        at = moved(&c, &m, at, *b);
     }
     at
 }
@@ -84,8 +69,7 @@ pub fn step(k: usize, b: u8) -> usize
     if BROKEN < k {
         return BROKEN;
     }
-    let one = [b];
-    run_on(k, &one, 0)
+    run_on(k, &[b])
 }
 
 // The state after a piece.
@@ -97,7 +81,7 @@ pub fn run(k: usize, s: &[u8]) -> usize
         return k;
     }
     if k <= BROKEN {
-        return run_on(k, s, from);
+        return run_on(k, &s[from..]);
     }
     BROKEN
 }

@@ -16,13 +16,8 @@ use Rattle.format.specs.Decide.{Out, stop, give, fixed, weak, looking, on_rows, 
 use Rattle.format.specs.Reading.{Result, ok, bad, Reader, Values, bind, by, ret, byte, u29, text, plain, ◌>>=◌, ◌>>◌, entries, couple, members, inlined, object_of, new_of, marked}
 use Rattle.format.specs.Reading as r
 use Rattle.format.proofs.Alike.{flat}
-use Rattle.parts.specs.declared.Sized.{Sized}
-use Rattle.parts.specs.declared.Sized.TheVariants as sized·is
-use Rattle.parts.specs.declared.Classed.{Classed}
-use Rattle.parts.specs.declared.Classed.TheVariants as classed·is
-use Rattle.scan.specs.Reads.{result, cleared, reads, flag}
-use Rattle.parts.specs.Heads.{Rest, nothing, rest, on_rest, size_rest, size_head, object_rest, object_head, known_trait, new_trait, inline_trait, external_trait, vector_head, sized_of, classed_of, over_of}
-use Rattle.scan.proofs.Then.{then, refused, returned}
+use Rattle.scan.specs.Reads.{cleared, reads}
+use Rattle.parts.specs.Heads.{on_rest, size_rest, size_head, object_rest, object_head, known_trait, new_trait, inline_trait, external_trait, vector_head}
 
 bind-same : {A B : Type 0} (x : Result A) (g h : A → Reader B) → ((a : A) (m : Memory) (c : Cursor) (bs : List ℕ) → g a m c bs ≡ h a m c bs) → bind x g ≡ bind x h
 bind-same (ok a m c bs) g h e = e a m c bs
@@ -46,30 +41,20 @@ module _ (value : Values) (row : ℕ) where
       let y = by (looking (λ m. starred p m.store)) m c bs in
       flat y _ _ ∙ bind-same y _ _ (λ star m c bs. simp flat)))
 
-  pub vector-split : (n : ℕ) (m : Memory) (c : Cursor) (s : List ℕ) {x : Result Unit}
-      → x ≡ reads (vector_head row >> entries (λ done. value no_key) row col_count n 0 >> by (on_rows (closed row))) m c s → x ≡ reads (new_of value row objects n) m c s
+  pub vector-split : (n : ℕ) (m : Memory) (c : Cursor) (s : List ℕ)
+      → reads (vector_head row >> entries (λ done. value no_key) row col_count n 0 >> by (on_rows (closed row))) m c s ≡ reads (new_of value row objects n) m c s
   unfolding reads
-  vector-split n m c s e = e ∙ ap cleared (on-vector n m c (drop c.at s))
-
-  on-dictionary : (n : ℕ) (m : Memory) (c : Cursor) (bs : List ℕ)
-      → (flag weak row >> entries (couple value row) row col_count n 0 >> by (on_rows (closed row))) m c bs ≡ new_of value row dictionary n m c bs
-  unfolding new_of flag
-  on-dictionary n m c bs = flat (bind (byte m c bs) _) _ _ ∙ flat (byte m c bs) _ _ ∙ bind-same (byte m c bs) _ _ (λ b m c bs. simp flat)
-
-  pub dictionary-split : (n : ℕ) (m : Memory) (c : Cursor) (s : List ℕ) {x : Result Unit}
-      → x ≡ reads (flag weak row >> entries (couple value row) row col_count n 0 >> by (on_rows (closed row))) m c s → x ≡ reads (new_of value row dictionary n) m c s
-  unfolding reads
-  dictionary-split n m c s e = e ∙ ap cleared (on-dictionary n m c (drop c.at s))
+  vector-split n m c s = ap cleared (on-vector n m c (drop c.at s))
 
   on-size : (body : Body) (z : Size) (m : Memory) (c : Cursor) (bs : List ℕ) → (size_rest row z >>= on_rest (new_of value row body)) m c bs ≡ r.sized_of value row body z m c bs
   unfolding size_rest r.sized_of
   on-size body (Old i) m c bs = simp (flat, bind-ret)
   on-size body (New n) m c bs = simp flat
 
-  pub sized-split : (body : Body) (m : Memory) (c : Cursor) (s : List ℕ) {x : Result Unit}
-      → x ≡ reads (size_head row >>= on_rest (new_of value row body)) m c s → x ≡ reads (marked value row (sized body)) m c s
+  pub sized-split : (body : Body) (m : Memory) (c : Cursor) (s : List ℕ)
+      → reads (size_head row >>= on_rest (new_of value row body)) m c s ≡ reads (marked value row (sized body)) m c s
   unfolding reads marked size_head
-  sized-split body m c s e = e ∙ ap cleared (flat (u29 word_more 0 m c (drop c.at s)) _ _ ∙ bind-same (u29 word_more 0 m c (drop c.at s)) _ _ (λ w. on-size body (size_of w)))
+  sized-split body m c s = ap cleared (flat (u29 word_more 0 m c (drop c.at s)) _ _ ∙ bind-same (u29 word_more 0 m c (drop c.at s)) _ _ (λ w. on-size body (size_of w)))
 
   on_trait : (t : Trait) (m : Memory) (c : Cursor) (bs : List ℕ) → (inline_trait row t >>= on_rest (members value row)) m c bs ≡ inlined value row t m c bs
   unfolding inline_trait inlined
@@ -82,32 +67,7 @@ module _ (value : Values) (row : ℕ) where
   on_shape External m c bs = simp flat
   on_shape (Inline n dynamic) m c bs = simp (flat, on_trait)
 
-  pub object-split : (m : Memory) (c : Cursor) (s : List ℕ) {x : Result Unit}
-      → x ≡ reads (object_head row >>= on_rest (members value row)) m c s → x ≡ reads (marked value row object) m c s
+  pub object-split : (m : Memory) (c : Cursor) (s : List ℕ)
+      → reads (object_head row >>= on_rest (members value row)) m c s ≡ reads (marked value row object) m c s
   unfolding reads marked object_head
-  object-split m c s e = e ∙ ap cleared (flat (u29 word_more 0 m c (drop c.at s)) _ _ ∙ bind-same (u29 word_more 0 m c (drop c.at s)) _ _ (λ w. on_shape (shape_of w)))
-
--- ---- nothing is left behind a beginning
-
-abbrev Over : {A : Type 0} → Out Unit (Rest A) → Type 0
-Over (stop n told place) = Unit
-Over (give nothing x c) = Unit
-Over (give (rest a) x c) = ⊥
-
-pub sized-over : (a : Sized) → ((n : ℕ) (c : Cursor) → a ≡ sized·is.New n c → ⊥) → Over (sized_of a)
-sized-over (sized·is.New n c) k = absurd (k n c refl)
-sized-over (sized·is.Over c) k = tt
-sized-over (sized·is.No r) k = tt
-
-pub classed-over : (a : Classed) → ((t : Trait) (c : Cursor) → a ≡ classed·is.Of t c → ⊥) → Over (classed_of a)
-classed-over (classed·is.Of t c) k = absurd (k t c refl)
-classed-over (classed·is.Over c) k = tt
-classed-over (classed·is.No r) k = tt
-
--- the whole ends with its beginning
-pub is-over : {A : Type 0} (f : Reader (Rest A)) (g : A → Reader Unit) (m m' : Memory) (c : Cursor) (s : List ℕ) (o : Out Unit (Rest A)) (x : Out Unit Unit)
-    → Over o → x ≡ over_of o → result o m' s ≡ reads f m c s → result x m' s ≡ reads (f >>= on_rest g) m c s
-is-over f g m m' c s (stop n told place) x h p e =
-    ap (λ x. result x m' s) p ∙ refused f (on_rest g) m m' c s (stop n told place) (record { number = n; told = told; place = place }) (record { number = n; told = told; place = place }) refl refl e
-is-over f g m m' c s (give nothing y c') x h p e = ap (λ x. result x m' s) p ∙ then f (on_rest g) m m' c s (give nothing y c') nothing c' (result (give tt tt c') m' s) refl e (returned tt m' c' s)
-is-over f g m m' c s (give (rest a) y c') x h p e = absurd h
+  object-split m c s = ap cleared (flat (u29 word_more 0 m c (drop c.at s)) _ _ ∙ bind-same (u29 word_more 0 m c (drop c.at s)) _ _ (λ w. on_shape (shape_of w)))

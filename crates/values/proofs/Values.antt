@@ -1,108 +1,73 @@
 -- A value by its marker's byte, and an object's members by the names and the dynamic mark of its trait.
-use mathlib.Core.Path.{◌≡◌, refl, sym, ap, ◌∙◌, subst}
-use mathlib.Core.Bool.{Bool, true, false, cond}
-use mathlib.Core.List.{List}
-use Prim.Native.Nat.{ℕ, zero, suc, ◌+◌, ◌-◌, ◌/◌, ◌<◌}
+use mathlib.Core.Path.{◌≡◌, refl}
+use Prim.Native.Nat.{ℕ, zero, suc, ◌-◌, ◌^◌, ◌<◌}
 use native.Mathlib.Numerals.{sub-one}
 use native.Mathlib.Omega.{arith}
-use lib.Dec.{ltb, leb}
-use lib.ListN.{length}
-use borrow.Author.Tests.{leb-false}
-use Rattle.rows.specs.declared.Cursor.{Cursor}
+use Rattle.std.specs.Prelude.{Option, Some, None, Result as Answer, Ok, Err, IfSome}
 use Rattle.rows.specs.declared.Key.{Key}
-use Rattle.rows.specs.Memory.{Memory, col_count2, span_width, span_at, span_used, key_of, row_used, put}
-use Rattle.decide.specs.declared.Refusal.{Refusal}
-use Rattle.wire.specs.Put.{With1, with1}
-use Rattle.decide.specs.Outcomes.{leaving, stopped}
-use Rattle.format.specs.Decide.{Out, stop, give, lost, on_rows, counted, sealed_key, marker, leaf, kind_of}
-use Rattle.format.specs.Reading.{Result, Values, by, byte, pairs, dynamics, marked}
+use Rattle.rows.specs.Memory.{no_key, col_count2}
+use Rattle.format.specs.declared.Refusal.{Refusal}
+use Rattle.format.specs.Decide.{lost, on_rows, marker, kind_of}
+use Rattle.format.specs.Reading.{Values, by, byte, ret, pairs, dynamics, marked}
 use Rattle.format.specs.Reading as r
-use Rattle.scan.specs.Reads.{result, cleared, reads}
-use Rattle.scan.proofs.Then.{then, refused, returned}
 use Rattle.format.specs.Refusals as refusals
+use Rattle.scan.specs.declared.Reading.{Reading}
+use Rattle.scan.specs.Reads.{result, cleared, reads, Reads}
+use Rattle.scan.proofs.Laws.{then, fails, given, same}
+
+-- the default of a key is none
+pub is-no-key : (k : Key) → (k.mark ≡ 0) × ((k.begin ≡ 0) × (k.size ≡ 0)) → k ≡ no_key
+is-no-key k e = λ i. record { mark = e.0 i; begin = e.1.0 i; size = e.1.1 i }
+
+-- an option that is no Some
+pub none-of : {A : Type 0} (o : Option A) → ((a : A) → o ≡ Some a → ⊥) → o ≡ None
+none-of None h = refl
+none-of (Some a) h = absurd (h a refl)
+
+pub below-size : (o : Option ℕ) {n : ℕ} → o ≡ Some n → IfSome o (λ n. n < 2 ^ 29) → n < 2 ^ 29
+below-size o e h = rw e at h
 
 -- the state doesn't hold together
-lose : (m : Memory) (c : Cursor) (s : List ℕ) (x : Refusal) → x ≡ record { number = refusals.lost; told = 0; place = 0 }
-    → result {A = Unit {0}} (stopped x) m s ≡ reads (by (λ m c. lost)) m c s
+lose : {A : Type 0} (g : Reading) (x : Refusal) → x ≡ record { number = refusals.lost; told = 0; place = 0 } → Reads {A = A} (Err x) g g (by (λ m c. lost))
 unfolding result reads cleared
-lose m c s x e = rw e
+lose g x e = rw e (record { read = refl; same = same g })
 
 -- ---- members
 
-pub dynamics-none : (value : Values) (row n : ℕ) (m : Memory) (c : Cursor) (s : List ℕ) → n ≡ 0 → result (give tt tt c) m s ≡ reads (dynamics value row n) m c s
-unfolding dynamics
-dynamics-none value row n m c s e = rw e (returned tt m c s)
+module _ (value : Values) (row : ℕ) {g g' : Reading} {y : Answer Unit Refusal} where
+  pub dynamics-none : (n : ℕ) → n ≡ 0 → Reads y g g' (ret tt) → Reads y g g' (dynamics value row n)
+  unfolding dynamics
+  dynamics-none n e q = rw e q
 
-pub dynamics-some : (value : Values) (row n : ℕ) (m : Memory) (c : Cursor) (s : List ℕ) {x : Result Unit} → (n ≡ 0 → ⊥)
-    → x ≡ reads (pairs value row col_count2 0) m c s → x ≡ reads (dynamics value row n) m c s
-unfolding dynamics
-dynamics-some value row zero m c s e q = absurd (e refl)
-dynamics-some value row (suc n) m c s e q = q
-
-abbrev Below : ℕ → Out Unit Key → Type 0
-Below i (stop n told place) = Unit
-Below i (give k x c) = i < c.names
-
-below-tests : (i : ℕ) (k : Key) (c : Cursor) (x y z : Bool) → (y ≡ false → i < c.names) → Below i (cond x lost (cond y lost (cond z (give k tt c) lost)))
-below-tests i k c true y z h = tt
-below-tests i k c false true z h = tt
-below-tests i k c false false true h = h refl
-below-tests i k c false false false h = tt
-
-below : (i : ℕ) (N : List ℕ) (c : Cursor) → Below i (sealed_key i N c)
-unfolding sealed_key
-below i N c = below-tests i (key_of (span_at N i)) c (ltb (length N / span_width) c.names) (leb c.names i) (span_used c (span_at N i)) (leb-false c.names i)
-
--- a name that is there is among those used
-pub name-used : (i : ℕ) (N : List ℕ) (c c' : Cursor) (k : Key) (o : Out Unit Key) → o ≡ sealed_key i N c → o ≡ give k tt c' → i < c'.names
-name-used i N c c' k o e p = subst (Below i) (sym e ∙ p) (below i N c)
-
-abbrev Under : ℕ → With1 (Out Unit Unit) → Type 0
-Under i (with1 (stop n told place) R) = Unit
-Under i (with1 (give a x c) R) = i < c.rows
-
-under-tests : (i : ℕ) (R R' : List ℕ) (c : Cursor) (x y : Bool) → (x ≡ false → i < c.rows) → Under i (leaving R (cond x lost (cond y (give tt R' c) lost)))
-under-tests i R R' c true y h = tt
-under-tests i R R' c false true h = h refl
-under-tests i R R' c false false h = tt
-
-under : (row col i : ℕ) (R : List ℕ) (c : Cursor) → Under i (leaving R (counted row col i R c))
-unfolding counted
-under row col i R c = under-tests i R (put R row col (i + 1)) c (leb c.rows i) (row_used R c row) (leb-false c.rows i)
-
--- an entry that is counted comes after fewer than there are rows
-pub rows_above : (row col i : ℕ) (R R' : List ℕ) (c c' : Cursor) (o : Out Unit Unit) → with1 o R' ≡ leaving R (counted row col i R c) → o ≡ give tt tt c' → i < c'.rows
-rows_above row col i R R' c c' o e p = subst (Under i) (sym e ∙ ap (λ o. with1 o R') p) (under row col i R c)
+  pub dynamics-some : (n : ℕ) → (n ≡ 0 → ⊥) → Reads y g g' (pairs value row col_count2 0) → Reads y g g' (dynamics value row n)
+  unfolding dynamics
+  dynamics-some zero e q = absurd (e refl)
+  dynamics-some (suc n) e q = q
 
 -- ---- values
 
-pub leaf-over : (value : Values) (row : ℕ) (m : Memory) (c : Cursor) (s : List ℕ) → result (give tt tt c) m s ≡ reads (marked value row leaf) m c s
-unfolding marked
-leaf-over value row m c s = returned tt m c s
-
-module _ (k : Key) (m m₁ : Memory) (c : Cursor) (s : List ℕ) (o : Out Unit ℕ) (e : result o m₁ s ≡ reads byte m c s) where
+module _ (k : Key) {g g₁ : Reading} where
   -- no byte is left
-  pub value-short : (left : ℕ) (x y : Refusal) → o ≡ stopped y → x ≡ y → result (stopped x) m₁ s ≡ reads (r.value left k) m c s
+  pub value-short : (left : ℕ) {x : Refusal} → Reads {A = ℕ} (Err x) g g₁ byte → Reads (Err x) g g₁ (r.value left k)
   unfolding r.value
-  value-short zero x y p q = refused _ _ m m₁ c s o x y p q e
-  value-short (suc left) x y p q = refused _ _ m m₁ c s o x y p q e
+  value-short zero q = fails _ _ q
+  value-short (suc left) q = fails _ _ q
 
-  module _ (b : ℕ) (c₁ : Cursor) (g : o ≡ give b tt c₁) (m₂ : Memory) (o₂ : Out Unit ℕ) where
+  module _ {b : ℕ} (q : Reads (Ok b) g g₁ byte) {g₂ : Reading} where
     -- the marker is refused
-    pub value-marker : (left : ℕ) (x y : Refusal) → result o₂ m₂ s ≡ reads (by (on_rows (marker k left b))) m₁ c₁ s → o₂ ≡ stopped y → x ≡ y → result (stopped x) m₂ s ≡ reads (r.value left k) m c s
+    pub value-marker : (left : ℕ) {x : Refusal} → Reads {A = ℕ} (Err x) g₁ g₂ (by (on_rows (marker k left b))) → Reads (Err x) g g₂ (r.value left k)
     unfolding r.value
-    value-marker zero x y e₂ p q = then _ _ m m₁ c s o b c₁ _ g e (refused _ _ m₁ m₂ c₁ s o₂ x y p q e₂)
-    value-marker (suc left) x y e₂ p q = then _ _ m m₁ c s o b c₁ _ g e (refused _ _ m₁ m₂ c₁ s o₂ x y p q e₂)
+    value-marker zero p = then _ _ q (fails _ _ p)
+    value-marker (suc left) p = then _ _ q (fails _ _ p)
 
-    module _ (row : ℕ) (c₂ : Cursor) (g₂ : o₂ ≡ give row tt c₂) where
-      pub value-deep : (left : ℕ) (x : Refusal) → result o₂ m₂ s ≡ reads (by (on_rows (marker k left b))) m₁ c₁ s → left ≡ 0 → x ≡ record { number = refusals.lost; told = 0; place = 0 }
-          → result (stopped x) m₂ s ≡ reads (r.value left k) m c s
-      unfolding r.value
-      value-deep zero x e₂ z q = then _ _ m m₁ c s o b c₁ _ g e (then _ _ m₁ m₂ c₁ s o₂ row c₂ _ g₂ e₂ (lose m₂ c₂ s x q))
-      value-deep (suc left) x e₂ z q = absurd (omega arith)
+    pub value-deep : (left : ℕ) {row : ℕ} {x : Refusal} → Reads (Ok row) g₁ g₂ (by (on_rows (marker k left b))) → left ≡ 0
+        → x ≡ record { number = refusals.lost; told = 0; place = 0 } → Reads (Err x) g g₂ (r.value left k)
+    unfolding r.value
+    value-deep zero p z e = then _ _ q (then _ _ p (lose _ _ e))
+    value-deep (suc left) p z e = absurd (omega arith)
 
-      pub value-marked : (left : ℕ) {x : Result Unit} → result o₂ m₂ s ≡ reads (by (on_rows (marker k left b))) m₁ c₁ s → (left ≡ 0 → ⊥)
-          → x ≡ reads (marked (r.value (left - 1)) row (kind_of b)) m₂ c₂ s → x ≡ reads (r.value left k) m c s
-      unfolding r.value
-      value-marked zero e₂ z q = absurd (z refl)
-      value-marked (suc left) {x} e₂ z q = then _ _ m m₁ c s o b c₁ x g e (then _ _ m₁ m₂ c₁ s o₂ row c₂ x g₂ e₂ (rw sub-one at q))
+    pub value-marked : (left : ℕ) {row : ℕ} {g₃ : Reading} {y : Answer Unit Refusal} → Reads (Ok row) g₁ g₂ (by (on_rows (marker k left b))) → (left ≡ 0 → ⊥)
+        → Reads y g₂ g₃ (marked (r.value (left - 1)) row (kind_of b)) → Reads y g g₃ (r.value left k)
+    unfolding r.value
+    value-marked zero p z w = absurd (z refl)
+    value-marked (suc left) p z w = then _ _ q (then _ _ p (rw sub-one at w))

@@ -3,68 +3,60 @@
 #![tactic(auto)]
 
 ghost use Rattle.std.specs.Prelude.{◌≡◌};
-ghost use Rattle.rows.specs.Memory.{at_entry, at_exit};
+ghost use Rattle.rows.specs.Lent.{memory_of, SameLoans};
+ghost use Rattle.scan.specs.Reads.{Same, memory_in};
 ghost use Rattle.format.specs.Answers.{read, read_call};
 
-use decide::Done;
 use format::{Answer, refusals};
-use rows::OPEN_LIMIT;
+use rows::{Cursor, Key, Loans, OPEN_LIMIT};
+use scan::Reading;
 
-// The whole message, read into loans that were lent for it: a refusal leaves them zero, but for 1, which leaves them as found.
-pub fn read(
-    rows: &mut [usize],
-    store: &mut [u8],
-    strings: &mut [usize],
-    objects: &mut [usize],
-    traits: &mut [usize],
-    names: &mut [usize],
-    message: &[u8],
-) -> Answer
-    ensures { read result (at_exit rows store strings objects traits names)
-        ≡ read_call (at_entry rows store strings objects traits names) message.now }
+// The whole message of a reading, from its beginning: a refusal leaves the loans zero, but for 1, which leaves them as found.
+fn read_whole(reading: &mut Reading) -> Answer
+    ensures { (read result (memory_in reading.new) ≡ read_call (memory_in reading.old) reading.old.message.now) × Same reading.old reading.new }
 {
-    let fault = rows::loan_fault(
-        rows.len(),
-        store.len(),
-        strings.len(),
-        objects.len(),
-        traits.len(),
-        names.len(),
-    );
-    if fault != 0 {
+    if let Some(loan) = reading.lent().fault() {
         return Answer::Refused {
             no: refusals::BAD_LOAN,
-            told: fault,
+            told: loan,
             place: 0,
             taken: 0,
         };
     }
-    rows::clear(rows, store, strings, objects, traits, names);
-    let a = values::value(
-        message,
-        rows,
-        store,
-        strings,
-        objects,
-        traits,
-        names,
-        rows::fresh(),
-        rows::no_key(),
-        OPEN_LIMIT,
-    );
-    let Done::Fine(c) = a else {
-        rows::clear(rows, store, strings, objects, traits, names);
-        let refusal = decide::not_done(a);
-        return Answer::Refused {
-            no: refusal.number,
-            told: refusal.told,
-            place: refusal.place,
-            taken: 0,
-        };
-    };
-    Answer::Finished {
-        rows: c.rows,
-        bytes: c.store,
-        taken: c.at,
+    reading.clear();
+    reading.cursor = Cursor::default();
+    match values::value(reading, Key::default(), OPEN_LIMIT) {
+        Ok(()) => Answer::Finished {
+            rows: reading.cursor.rows,
+            bytes: reading.cursor.store,
+            taken: reading.cursor.at,
+        },
+        Err(refusal) => {
+            reading.clear();
+            Answer::Refused {
+                no: refusal.number,
+                told: refusal.told,
+                place: refusal.place,
+                taken: 0,
+            }
+        }
     }
+}
+
+// The whole message, read into loans that were lent for it.
+pub fn read(loans: &mut Loans, message: &[u8]) -> Answer
+    ensures call { read result (memory_of loans.new) ≡ read_call (memory_of loans.old) message.now }
+    ensures same { SameLoans loans.old loans.new }
+{
+    let mut reading = Reading {
+        message,
+        rows: &mut *loans.rows,
+        store: &mut *loans.store,
+        strings: &mut *loans.strings,
+        objects: &mut *loans.objects,
+        traits: &mut *loans.traits,
+        names: &mut *loans.names,
+        cursor: Cursor::default(),
+    };
+    read_whole(&mut reading)
 }

@@ -1,4 +1,5 @@
 -- Big-endian numbers, once over the width: the round trips, the number from shifted bytes, and the bytes put one by one.
+use Rattle.std.proofs.Common.{Option, Some, None}
 use mathlib.Core.Path.{◌≡◌, refl, ap, sym, ◌∙◌}
 use mathlib.Core.Bool.{Bool, true, false, cond}
 use mathlib.Core.List.{List, [], ◌∷◌, ◌++◌}
@@ -6,19 +7,18 @@ use Prim.Native.Nat.{ℕ, zero, suc, ◌+◌, ◌*◌, ◌-◌, ◌^◌, ◌/◌
 use native.Mathlib.Omega.{arith}
 use native.Mathlib.Decide.{dec_lt}
 use native.Mathlib.Nat.{mod-lt}
-use borrow.Author.Tests.{eq-eqb, ne_eqb}
-use lib.Pow.{shl_exact, shl_lt, shr-shr, high, low}
-use lib.Bits.{bit_or, or_shifted}
+use borrow.Author.Tests.{leb-true, le-leb, lt-leb, eq-eqb, ne_eqb}
+use lib.Pow.{shr-shr, high, low}
 use lib.Dec.{leb, eqb, lit<}
-use lib.ListN.{length, get_or, set, take, drop, drop_of_length-le}
-use lib.Seq.{take-nil, drop-cons, sets, slice, length-slice}
-use Rattle.wire.specs.Big.{number_of, number_at, bytes_of, digit_of}
+use lib.ListN.{length, get_or, take, drop, drop_of_length-le}
+use lib.Seq.{take-nil, drop-cons, slice, length-slice}
+use Rattle.std.specs.Int.{w32, w64, from_be_bytes, to_be_bytes}
+use Rattle.std.proofs.lemmas.Option.{cond_some, some_pair_parts}
+use Rattle.wire.specs.Big.{number_of, bytes_at, number_at, bytes_of, digit_of}
 use Rattle.wire.specs.declared.Part.{Part}
-use Rattle.wire.specs.declared.Part.TheVariants.{More, Whole, Astray}
-use Rattle.wire.specs.declared.Read.TheVariants.{Value, Short}
-use Rattle.wire.proofs.Digits.{shift_up, digit-below, one_more, given, can, cannot, guard, row-length, row-bytes, put_first}
+use Rattle.wire.specs.declared.Part.TheVariants.{More, Whole}
+use Rattle.wire.proofs.Digits.{digit-below, one_more, given, can, cannot, guard, row-length, row-bytes}
 use Rattle.wire.proofs.Octets.{Bytes}
-use Rattle.wire.proofs.Room.{room}
 use Rattle.wire.proofs.Shift.{shifted-out}
 
 -- ---- the round trips
@@ -66,31 +66,6 @@ bytes-number s h = bytes-number-behind 0 s h
 
 -- ---- reading
 
--- a byte before k others, shifted to its place
-abbrev pub shifted : ℕ → ℕ → ℕ
-shifted zero b = b
-shifted (suc k) b = b * 2 ^ (8 * suc k) % 2 ^ 64
-
--- the bytes s, each in its place, joined to n
-abbrev pub joined : ℕ → List ℕ → ℕ
-joined n [] = n
-joined n (b ∷ s) = joined (bit_or n (shifted (length s) b)) s
-
-shifted-is : (k b : ℕ) → k ≤ 7 → b < 2 ^ 8 → shifted k b ≡ b * 2 ^ (8 * k)
-shifted-is zero b l h = omega arith
-shifted-is (suc k) b l h = shl_exact {a = b} 8 (8 * suc k) 64 h (omega arith)
-
-next-byte : (n b k : ℕ) → k ≤ 7 → b < 2 ^ 8 → bit_or (n * 2 ^ (8 * suc k)) (shifted k b) ≡ (n * 2 ^ 8 + b) * 2 ^ (8 * k)
-next-byte n b k l h =
-    let e : 8 + 8 * k ≡ 8 * suc k = omega arith in
-    rw (shifted-is k b l h, or_shifted n (8 * suc k) (b * 2 ^ (8 * k)) (rw e at (shl_lt {a = b} 8 (8 * k) h))) (sym (shift_up 8 n b k))
-
-joined-behind : (n : ℕ) (s : List ℕ) → Bytes s → length s ≤ 8 → joined (n * 2 ^ (8 * length s)) s ≡ number_of n s
-unfolding number_of
-joined-behind n [] h l = omega arith
-joined-behind n (b ∷ s) h l =
-    ap (λ (m : ℕ). joined m s) (next-byte n b (length s) (omega arith) (h 0)) ∙ joined-behind (n * 2 ^ 8 + b) s (λ i. h (suc i)) (omega arith)
-
 -- k elements of a list from i on
 abbrev pub elements : ℕ → ℕ → List ℕ → List ℕ
 elements zero i l = []
@@ -100,14 +75,14 @@ elements_are : (k i : ℕ) (l : List ℕ) → i + k ≡ length l → elements k 
 elements_are zero i l e = sym (drop_of_length-le l {i = i} (omega arith))
 elements_are (suc k) i l e = rw (drop-cons l i 0 (omega arith)) (ap (λ (s : List ℕ). get_or l i 0 ∷ s) (elements_are k (suc i) l (omega arith)))
 
--- the bytes of a list at their places
-joined_number : (k : ℕ) (l : List ℕ) → length l ≡ suc k → k ≤ 7 → Bytes l → joined (shifted k (get_or l 0 0)) (elements k 1 l) ≡ number_of 0 l
+-- std's sum of the bytes, each at its worth
+pub number-of_eight : (l : List ℕ) → length l ≡ 8 → from_be_bytes w64 l ≡ number_of 0 l
 unfolding number_of
-joined_number k [] e h g = absurd (omega arith)
-joined_number k (b ∷ s) e h g =
-    let z : 0 * 2 ^ 8 + b ≡ b = omega arith in
-    let w : k ≡ length s = omega arith in
-    rw (elements_are k 1 (b ∷ s) (omega arith), shifted-is k b h (g 0), w, z) (joined-behind b s (λ i. g (suc i)) (omega arith))
+number-of_eight l e = (let s : from_be_bytes w64 l ≡ number_of 0 (elements 8 0 l) = omega arith in s) ∙ ap (number_of 0) (elements_are 8 0 l (sym e))
+
+pub number-of_four : (l : List ℕ) → length l ≡ 4 → from_be_bytes w32 l ≡ number_of 0 l
+unfolding number_of
+number-of_four l e = (let s : from_be_bytes w32 l ≡ number_of 0 (elements 4 0 l) = omega arith in s) ∙ ap (number_of 0) (elements_are 4 0 l (sym e))
 
 -- a part `&l[f..t]` is a slice
 part_slice : (f t : ℕ) (l : List ℕ) → take (t - f) (drop f l) ≡ slice f t l
@@ -116,50 +91,74 @@ part_slice (suc f) zero l = let e : 0 - suc f ≡ 0 = omega arith in rw e
 part_slice (suc f) (suc t) [] = take-nil (suc t - suc f)
 part_slice (suc f) (suc t) (x ∷ l) = let e : suc t - suc f ≡ t - f = omega arith in rw e (part_slice f t l)
 
-pub read_short : (k at : ℕ) (s : List ℕ) {r : Bool} → r ≡ leb (at + k) (length s) → r ≡ false → Short ≡ number_at k s at
-unfolding number_at
-read_short k at s e t = rw (← e, t)
+pub first_slice : (k at : ℕ) (l : List ℕ) → take k (drop at l) ≡ slice at (at + k) l
+first_slice k at l = let e : k ≡ at + k - at = omega arith in ap (λ (n : ℕ). take n (drop at l)) e ∙ part_slice at (at + k) l
 
--- the k + 1 bytes at `at`
+-- the bytes are there, or not
 module _ (k at : ℕ) (s : List ℕ) where
-  abbrev part : List ℕ
-  part = take (at + suc k - at) (drop at s)
+  pub bytes-there : at + k ≤ length s → bytes_at k s at ≡ Some (slice at (at + k) s, at + k)
+  unfolding bytes_at
+  bytes-there h = rw (le-leb (at + k) (length s) h)
 
-  pub read_number : {r : Bool} → r ≡ leb (at + suc k) (length s) → r ≡ true → k ≤ 7 → Bytes part
-      → Value (joined (shifted k (get_or part 0 0)) (elements k 1 part)) (at + suc k) ≡ number_at (suc k) s at
-  unfolding number_at
-  read_number e t h g =
-      let p : part ≡ slice at (at + suc k) s = part_slice at (at + suc k) s in
-      let n : length part ≡ suc k = ap length p ∙ length-slice at (at + suc k) s (room (suc k) at s e t) ∙ omega arith in
-      rw (← e, t) (ap (λ (x : ℕ). Value x (at + suc k)) (joined_number k part n h g ∙ ap (number_of 0) p))
+  pub bytes-short : length s < at + k → bytes_at k s at ≡ None
+  unfolding bytes_at
+  bytes-short h = rw (lt-leb (at + k) (length s) h)
+
+  by-room : (t : Bool) (a : List ℕ × ℕ) (b : ℕ × ℕ) → cond t (Some a) None ≡ None → cond t (Some b) None ≡ None
+  by-room true a b e = let z : ◌≡◌ {A = ℕ} 0 1 = cc in absurd (omega arith)
+  by-room false a b e = refl
+
+  pub number-short : bytes_at k s at ≡ None → number_at k s at ≡ None
+  unfolding bytes_at number_at
+  number-short = by-room (leb (at + k) (length s)) _ _
+
+  pub bytes-are : {l : List ℕ} {p : ℕ} → bytes_at k s at ≡ Some (l, p) → length l ≡ k
+  unfolding bytes_at
+  bytes-are {l} {p} e =
+      let (t, q) = cond_some _ _ _ e in
+      let (there, behind) = some_pair_parts _ _ _ _ (ap Some q) in
+      sym (ap length there) ∙ length-slice at (at + k) s (leb-true _ _ t) ∙ omega arith
+
+  pub number-there : {l : List ℕ} {p n : ℕ} → bytes_at k s at ≡ Some (l, p) → n ≡ number_of 0 l → Some (n, p) ≡ number_at k s at
+  unfolding bytes_at number_at
+  number-there {l} {p} {n} e f =
+      let (t, q) = cond_some _ _ _ e in
+      let (there, behind) = some_pair_parts _ _ _ _ (ap Some q) in
+      rw (t, there, behind, f)
 
 -- ---- putting
 
-pub put_byte : (out : List ℕ) (p j n b : ℕ) → 0 < j → b ≡ n / 2 ^ (8 * (j - 1)) % 2 ^ 8 → sets out p (bytes_of j n) ≡ sets (set out p b) (p + 1) (bytes_of (j - 1) n)
+-- std's bytes of a number
+pub bytes-of_eight : (n : ℕ) → to_be_bytes w64 n ≡ bytes_of 8 n
 unfolding bytes_of
-put_byte out p j n b = put_first (λ k. bytes_of k n) (λ k. n / 2 ^ (8 * k) % 2 ^ 8) (λ k. refl) out p j b
+bytes-of_eight n = let e : n % 256 ≡ n / 1 % 256 = omega arith in rw e
 
-pub put-none : (out : List ℕ) (p j n : ℕ) → j ≡ 0 → sets out p (bytes_of j n) ≡ out
+pub bytes-of_four : (n : ℕ) → to_be_bytes w32 (n % 2 ^ 32) ≡ bytes_of 4 n
 unfolding bytes_of
-put-none out p j n e = rw e
+bytes-of_four n =
+    let a : n % 2 ^ 32 / 2 ^ 24 % 256 ≡ n / 2 ^ 24 % 256 = omega arith in
+    let b : n % 2 ^ 32 / 2 ^ 16 % 256 ≡ n / 2 ^ 16 % 256 = omega arith in
+    let c : n % 2 ^ 32 / 2 ^ 8 % 256 ≡ n / 2 ^ 8 % 256 = omega arith in
+    let d : n % 2 ^ 32 % 256 ≡ n / 1 % 256 = omega arith in
+    rw (a, b, c, d)
 
 -- ---- byte by byte
 
 module _ (left n b : ℕ) (within : left ≤ 7) (small : n < 2 ^ (8 * (7 - left))) where
-  pub digit-last : left ≡ 0 → digit_of left n b ≡ Whole (n * 2 ^ 8 + b)
+  pub digit-last : left ≡ 0 → digit_of left n b ≡ Some (Whole (n * 2 ^ 8 + b))
   unfolding digit_of
   digit-last z = given 8 7 left n _ within small ∙ simp (eq-eqb left 0 z)
 
-  pub digit-more : 0 < left → digit_of left n b ≡ More (n * 2 ^ 8 + b)
+  pub digit-more : 0 < left → digit_of left n b ≡ Some (More (n * 2 ^ 8 + b))
   unfolding digit_of
   digit-more l = given 8 7 left n _ within small ∙ simp (ne_eqb left 0 (λ z. omega arith))
 
 -- a byte that says more is not the last, and leaves a number that bytes can give
-pub digit-within : (left n b m : ℕ) → b < 256 → digit_of left n b ≡ More m → (0 < left) × (m < 2 ^ (8 * (7 - (left - 1))))
+pub digit-within : (left n b m : ℕ) → b < 256 → digit_of left n b ≡ Some (More m) → (0 < left) × (m < 2 ^ (8 * (7 - (left - 1))))
 unfolding digit_of
 digit-within left n b m hb e =
     elim (guard 8 7 left n) [
-      | cannot a f ↦ (let d : digit_of left n b ≡ Astray = f _ in let z : ◌≡◌ {A = ℕ} 0 1 = cc in absurd (omega arith))
+      | cannot a f ↦ (let d : digit_of left n b ≡ None = f _ in let z : ◌≡◌ {A = ℕ} 0 1 = cc in absurd (omega arith))
       | can h f ↦ elim (dec_lt 0 left) [
         | no l ↦ (let d = digit-last left n b h f (omega arith) in let z : ◌≡◌ {A = ℕ} 0 1 = cc in absurd (omega arith))
         | yes l ↦ (let d = digit-more left n b h f l in let v : n * 2 ^ 8 + b ≡ m = cc in (l, rw v at (one_more 8 7 left n b l h f hb)))
@@ -168,7 +167,7 @@ digit-within left n b m hb e =
 
 -- the byte b after the bytes s: a reader that holds their number goes on to that of s and b
 pub digit-after : (left b : ℕ) (s : List ℕ) → length s + left ≡ 7 → Bytes s
-    → digit_of left (number_of 0 s) b ≡ cond (eqb left 0) Whole More (number_of 0 (s ++ (b ∷ [])))
+    → digit_of left (number_of 0 s) b ≡ Some (cond (eqb left 0) Whole More (number_of 0 (s ++ (b ∷ []))))
 digit-after left b s e g =
     let k : length s ≡ 7 - left = omega arith in
     let f : number_of 0 s < 2 ^ (8 * (7 - left)) = rw k at (number_lt s g) in
@@ -178,17 +177,17 @@ digit-after left b s e g =
       | yes l ↦ simp (ne_eqb left 0 (λ z. omega arith)) (digit-more left (number_of 0 s) b (omega arith) f l)
     ])
 
-abbrev pub onward : (ℕ → Part) → Part → Part
-onward more (More n) = more n
-onward more (Whole n) = Whole n
-onward more Astray = Astray
+abbrev pub onward : (ℕ → Option Part) → Option Part → Option Part
+onward more (Some (More n)) = more n
+onward more (Some (Whole n)) = Some (Whole n)
+onward more None = None
 
 -- what bytes give one by one, after those that gave n; `left` come after the first
-unfoldable pub digits_of : ℕ → ℕ → List ℕ → Part
-digits_of left n [] = More n
+unfoldable pub digits_of : ℕ → ℕ → List ℕ → Option Part
+digits_of left n [] = Some (More n)
 digits_of left n (b ∷ s) = onward (λ m. digits_of (left - 1) m s) (digit_of left n b)
 
-pub digits : (k n : ℕ) (s : List ℕ) → length s ≡ suc k → k ≤ 7 → n < 2 ^ (8 * (7 - k)) → Bytes s → digits_of k n s ≡ Whole (number_of n s)
+pub digits : (k n : ℕ) (s : List ℕ) → length s ≡ suc k → k ≤ 7 → n < 2 ^ (8 * (7 - k)) → Bytes s → digits_of k n s ≡ Some (Whole (number_of n s))
 unfolding digits_of number_of
 digits k n [] e h f g = absurd (omega arith)
 digits zero n (b ∷ []) e h f g = rw (digit-last 0 n b h f refl)

@@ -1,4 +1,5 @@
 -- Dates: which bits are refused, the milliseconds of the others, and where they are as the crate has them.
+use Rattle.std.proofs.Common.{Some, None}
 use mathlib.Core.Path.{◌≡◌, refl, ap, sym, subst, ◌∙◌}
 use mathlib.Core.Bool.{Bool, true, false, cond, not, ◌&&◌}
 use Prim.Native.Nat.{ℕ, zero, suc, ◌+◌, ◌*◌, ◌-◌, ◌^◌, ◌/◌, ◌%◌, ◌≤◌, ◌<◌, min}
@@ -15,7 +16,6 @@ use lib.Ieee.Back.{positive_back, Float-back_unsigned, round_whole}
 use lib.Ieee.Bits.{of_bits-to_bits, to_bits-of_bits, of_bits-fits}
 use lib.Ieee.Fits.{of_int-fits, and_i, and_l, and_r}
 use Rattle.wire.specs.Date.{finite, refused_date, moment_of, bounded}
-use Rattle.wire.specs.declared.Moment.TheVariants.{None, At}
 use Rattle.wire.proofs.Cast.{by_value, value-finite, value-not-nan, field, digits, whole, bits-finite, bits-value, bits-cast, bits-signed, units}
 
 -- ---- which bits are refused
@@ -46,7 +46,7 @@ pub no-moment : (b : ℕ) → refused_date b ≡ true → moment_of b ≡ None
 unfolding moment_of
 no-moment b h = rw h
 
-pub moment-at : (b : ℕ) → refused_date b ≡ false → moment_of b ≡ At (to_signed 63 (of_bits binary64 b))
+pub moment-at : (b : ℕ) → refused_date b ≡ false → moment_of b ≡ Some (to_signed 63 (of_bits binary64 b))
 unfolding moment_of
 moment-at b h = rw h
 
@@ -150,18 +150,18 @@ module _ (b : ℕ) where
       not-not true = refl
       not-not false = refl
 
-  by-fields : b % 2 ^ 63 / 2 ^ 52 < 2047 → {n : ℕ} → whole b ≡ n → moment_of b ≡ At (bounded (leb (2 ^ 63) b) n)
+  by-fields : b % 2 ^ 63 / 2 ^ 52 < 2047 → {n : ℕ} → whole b ≡ n → moment_of b ≡ Some (bounded (leb (2 ^ 63) b) n)
   by-fields l e =
-      moment-at b (refused_ones ∙ ne_eqb (b % 2 ^ 63 / 2 ^ 52) 2047 (λ q. omega arith)) ∙ ap At (bits-signed b l ∙ ap (bounded (leb (2 ^ 63) b)) e)
+      moment-at b (refused_ones ∙ ne_eqb (b % 2 ^ 63 / 2 ^ 52) 2047 (λ q. omega arith)) ∙ ap Some (bits-signed b l ∙ ap (bounded (leb (2 ^ 63) b)) e)
 
   pub moment-by-fields : 0 < b % 2 ^ 63 / 2 ^ 52 → b % 2 ^ 63 / 2 ^ 52 < 2047
-      → moment_of b ≡ At (bounded (leb (2 ^ 63) b) ((2 ^ 52 + b % 2 ^ 52) * 2 ^ (b % 2 ^ 63 / 2 ^ 52 - 1) / 2 ^ 1074))
+      → moment_of b ≡ Some (bounded (leb (2 ^ 63) b) ((2 ^ 52 + b % 2 ^ 52) * 2 ^ (b % 2 ^ 63 / 2 ^ 52 - 1) / 2 ^ 1074))
   moment-by-fields h l = by-fields l (ap (λ (n : ℕ). n / 2 ^ 1074) (units-up (b % 2 ^ 63 / 2 ^ 52) (b % 2 ^ 52) h))
 
   -- no leading digit: less than one
-  pub moment-below-one : b % 2 ^ 63 / 2 ^ 52 ≡ 0 → moment_of b ≡ At (pos 0)
+  pub moment-below-one : b % 2 ^ 63 / 2 ^ 52 ≡ 0 → moment_of b ≡ Some (pos 0)
   moment-below-one e =
-      by-fields (omega arith) none ∙ ap At (zero (leb (2 ^ 63) b))
+      by-fields (omega arith) none ∙ ap Some (zero (leb (2 ^ 63) b))
     where
       none : whole b ≡ 0
       none = ap (λ (x : ℕ). units x (b % 2 ^ 52) / 2 ^ 1074) e ∙ div-eq_of_lt (lt_of_lt_of_le (mod-lt b (lit< tt)) (pow_mono {i = 52} {j = 1074} (omega arith)))
@@ -172,11 +172,11 @@ module _ (b : ℕ) where
 
 -- in a double's own words
 module _ (b m : ℕ) (e : ℤ) where
-  pub moment_positive : of_bits binary64 b ≡ fin false m e → moment_of b ≡ At (pos (min (m * up e / down e) (2 ^ 63 - 1)))
+  pub moment_positive : of_bits binary64 b ≡ fin false m e → moment_of b ≡ Some (pos (min (m * up e / down e) (2 ^ 63 - 1)))
   unfolding moment_of refused_date finite to_signed
   moment_positive h = rw h
 
-  pub moment-negative : of_bits binary64 b ≡ fin true m e → moment_of b ≡ At (neg_ℤ (pos (min (m * up e / down e) (2 ^ 63))))
+  pub moment-negative : of_bits binary64 b ≡ fin true m e → moment_of b ≡ Some (neg_ℤ (pos (min (m * up e / down e) (2 ^ 63))))
   unfolding moment_of refused_date finite to_signed
   moment-negative h = rw h
 
@@ -185,7 +185,7 @@ pub none-refused : (b : ℕ) → moment_of b ≡ None → refused_date b ≡ tru
 unfolding moment_of
 none-refused b e = by (refused_date b) e
   where
-    by : (t : Bool) → cond t None (At (to_signed 63 (of_bits binary64 b))) ≡ None → t ≡ true
+    by : (t : Bool) → cond t None (Some (to_signed 63 (of_bits binary64 b))) ≡ None → t ≡ true
     by true h = refl
     by false h = let z : ◌≡◌ {A = ℕ} 0 1 = cc in absurd (omega arith)
 
@@ -193,10 +193,10 @@ none-refused b e = by (refused_date b) e
 
 -- below 2 ^ 63 the milliseconds are those that it reads
 pub reads-as_crate : (b : ℕ) → b < 2 ^ 63 → refused_date b ≡ false → to_unsigned 64 (of_bits binary64 b) < 2 ^ 63
-    → moment_of b ≡ At (pos (to_unsigned 64 (of_bits binary64 b)))
+    → moment_of b ≡ Some (pos (to_unsigned 64 (of_bits binary64 b)))
 reads-as_crate b l p h =
     let e : b % 2 ^ 63 ≡ b = mod-eq_of_lt l in
-    moment-at b p ∙ ap At (signed_is b p ∙ rw (lt-leb (2 ^ 63) b l, e) (ap pos (min-eq_left (omega arith))))
+    moment-at b p ∙ ap Some (signed_is b p ∙ rw (lt-leb (2 ^ 63) b l, e) (ap pos (min-eq_left (omega arith))))
 
 -- the bits that it writes for whole milliseconds up to 2 ^ 53 read as these
 module _ (ms : ℕ) (h : ms ≤ 2 ^ 53) where
@@ -214,11 +214,11 @@ module _ (ms : ℕ) (h : ms ≤ 2 ^ 53) where
   read_back : of_bits binary64 (to_bits binary64 double) ≡ double
   read_back = of_bits-to_bits binary64 double (of_int-fits binary64 (pos ms))
 
-  pub date-round : moment_of (to_bits binary64 double) ≡ At (pos ms)
+  pub date-round : moment_of (to_bits binary64 double) ≡ Some (pos ms)
   unfolding refused_date
   date-round =
       moment-at (to_bits binary64 double) (rw (read_back, value-finite double false ms 1 value_of))
-      ∙ ap At (ap (to_signed 63) read_back ∙ (positive_back binary64 63 ms in-float (omega arith)).1)
+      ∙ ap Some (ap (to_signed 63) read_back ∙ (positive_back binary64 63 ms in-float (omega arith)).1)
 
 -- a date that is whole, up to 2 ^ 53 and has no sign is written with its own bits
 whole-finite : (x : Float) → T (is_whole binary64 x) → finite x ≡ true

@@ -1,4 +1,5 @@
 -- Digits of w bits each, the highest first: the number that one more gives and its bound, when one goes astray, and a row of digits to be put.
+use Rattle.std.proofs.Common.{Option, None}
 use mathlib.Core.Path.{◌≡◌, ap, sym, ◌∙◌}
 use mathlib.Core.Bool.{cond}
 use mathlib.Core.List.{List, ◌∷◌}
@@ -13,7 +14,6 @@ use lib.ListN.{length, set}
 use lib.Pow.{pow-add, pow_mono, mod-pow-add}
 use lib.Seq.{sets}
 use Rattle.wire.specs.declared.Part.{Part}
-use Rattle.wire.specs.declared.Part.TheVariants.{Astray}
 use Rattle.wire.proofs.Octets.{Bytes}
 
 -- ---- one digit more
@@ -47,15 +47,15 @@ before_small w top left h = lt_of_lt_of_le h (pow_mono (mul-le-mul_left w (omega
 -- ---- astray
 
 -- what a digit gives, where those before it can give n
-abbrev pub guarded : ℕ → ℕ → ℕ → ℕ → Part → Part
-guarded w top left n x = cond (ltb top left) Astray (cond (leb (2 ^ (w * (top - left))) n) Astray x)
+abbrev pub guarded : ℕ → ℕ → ℕ → ℕ → Option Part → Option Part
+guarded w top left n x = cond (ltb top left) None (cond (leb (2 ^ (w * (top - left))) n) None x)
 
-module _ (w top left n : ℕ) (x : Part) where
-  pub too_many : top < left → guarded w top left n x ≡ Astray
+module _ (w top left n : ℕ) (x : Option Part) where
+  pub too_many : top < left → guarded w top left n x ≡ None
   too_many h = simp (lt-ltb top left h)
 
   module _ (within : left ≤ top) where
-    pub too_large : 2 ^ (w * (top - left)) ≤ n → guarded w top left n x ≡ Astray
+    pub too_large : 2 ^ (w * (top - left)) ≤ n → guarded w top left n x ≡ None
     too_large h = simp (le-ltb top left within, le-leb _ n h)
 
     pub given : n < 2 ^ (w * (top - left)) → guarded w top left n x ≡ x
@@ -64,7 +64,7 @@ module _ (w top left n : ℕ) (x : Part) where
 -- those before it can give n, or it goes astray
 pub data Before (w top left n : ℕ) : Type 0 where
   can : left ≤ top → n < 2 ^ (w * (top - left)) → Before w top left n
-  cannot : (left ≤ top → n < 2 ^ (w * (top - left)) → ⊥) → ((x : Part) → guarded w top left n x ≡ Astray) → Before w top left n
+  cannot : (left ≤ top → n < 2 ^ (w * (top - left)) → ⊥) → ((x : Option Part) → guarded w top left n x ≡ None) → Before w top left n
 
 pub guard : (w top left n : ℕ) → Before w top left n
 guard w top left n =

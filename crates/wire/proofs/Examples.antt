@@ -1,4 +1,5 @@
 -- Worked examples: the forms of a U29 where a byte more begins, and their ends; the sign rule, and dates, at the ends of their ranges and past them.
+use Rattle.std.proofs.Common.{Some, None}
 use mathlib.Core.Path.{◌≡◌, refl}
 use mathlib.Core.List.{[], ◌∷◌, map}
 use Prim.Native.Nat.{◌-◌, ◌^◌}
@@ -7,8 +8,6 @@ use lib.Ieee as ieee
 use Rattle.wire.specs.Date.{finite, refused_date, moment_of}
 use Rattle.wire.specs.Sign.{residue, integer_of, bits_of, column_of}
 use Rattle.wire.specs.U29.{more_of, groups, u29}
-use Rattle.wire.specs.declared.Bits.TheVariants.{Of, Outside}
-use Rattle.wire.specs.declared.Moment.TheVariants.{None, At}
 
 forms : map u29 (0x00 ∷ 0x7f ∷ 0x80 ∷ 0x3fff ∷ 0x4000 ∷ 0x1fffff ∷ 0x200000 ∷ 0x1fffffff ∷ [])
     ≡ (0x00 ∷ []) ∷ (0x7f ∷ []) ∷ (0x81 ∷ 0x00 ∷ []) ∷ (0xff ∷ 0x7f ∷ []) ∷ (0x81 ∷ 0x80 ∷ 0x00 ∷ []) ∷ (0xff ∷ 0xff ∷ 0x7f ∷ [])
@@ -24,7 +23,7 @@ remainders = refl
 
 written : map bits_of
     (pos 0 ∷ negsuc 0 ∷ negsuc (2 ^ 28 - 1) ∷ pos (2 ^ 28 - 1) ∷ pos (2 ^ 28) ∷ negsuc (2 ^ 28) ∷ pos (2 ^ 29 - 1) ∷ negsuc (2 ^ 29) ∷ [])
-    ≡ Of 0 ∷ Of 0x1fff_ffff ∷ Of 0x1000_0000 ∷ Of 0x0fff_ffff ∷ Outside ∷ Outside ∷ Outside ∷ Outside ∷ []
+    ≡ Some 0 ∷ Some 0x1fff_ffff ∷ Some 0x1000_0000 ∷ Some 0x0fff_ffff ∷ None ∷ None ∷ None ∷ None ∷ []
 unfolding bits_of
 written = refl
 
@@ -42,8 +41,8 @@ turned = refl
 moments : map moment_of
     (0 ∷ 0x8000_0000_0000_0000 ∷ 1 ∷ 0xBFEF_FFFF_FFFF_FFFF ∷ 0x3FF0_0000_0000_0000 ∷ 0xBFF8_0000_0000_0000 ∷ 0xC21D_5EC4_B000_0000 ∷ 0x4340_0000_0000_0001
     ∷ 0x43DF_FFFF_FFFF_FFFF ∷ 0x43E0_0000_0000_0000 ∷ 0xC3DF_FFFF_FFFF_FFFF ∷ 0xC3E0_0000_0000_0000 ∷ 0x7FEF_FFFF_FFFF_FFFF ∷ 0xFFEF_FFFF_FFFF_FFFF ∷ [])
-    ≡ At (pos 0) ∷ At (pos 0) ∷ At (pos 0) ∷ At (pos 0) ∷ At (pos 1) ∷ At (negsuc 0) ∷ At (negsuc 31535999999) ∷ At (pos 9007199254740994)
-    ∷ At (pos 9223372036854774784) ∷ At (pos (2 ^ 63 - 1)) ∷ At (negsuc 9223372036854774783) ∷ At (negsuc (2 ^ 63 - 1)) ∷ At (pos (2 ^ 63 - 1)) ∷ At (negsuc (2 ^ 63 - 1)) ∷ []
+    ≡ Some (pos 0) ∷ Some (pos 0) ∷ Some (pos 0) ∷ Some (pos 0) ∷ Some (pos 1) ∷ Some (negsuc 0) ∷ Some (negsuc 31535999999) ∷ Some (pos 9007199254740994)
+    ∷ Some (pos 9223372036854774784) ∷ Some (pos (2 ^ 63 - 1)) ∷ Some (negsuc 9223372036854774783) ∷ Some (negsuc (2 ^ 63 - 1)) ∷ Some (pos (2 ^ 63 - 1)) ∷ Some (negsuc (2 ^ 63 - 1)) ∷ []
 unfolding moment_of refused_date finite ieee.of_bits ieee.of_fields ieee.odd ieee.to_signed
 moments = refl
 

@@ -1,4 +1,5 @@
 -- The sign rule: what the remainder is, that the number is found back from it, and the ends of the range.
+use Rattle.std.proofs.Common.{Some, None}
 use mathlib.Core.Path.{◌≡◌, refl, ap, sym, subst, ◌∙◌}
 use mathlib.Core.Bool.{cond}
 use mathlib.Core.List.{[], ◌∷◌, map}
@@ -12,7 +13,6 @@ use lib.Pow.{pow-add}
 use lib.IntN.{ℤ, pos, negsuc, suc_ℤ, pos-ne-negsuc, ◌+ℤ◌, ◌-ℤ◌, ◌*ℤ◌, +ℤ_assoc, +ℤ_comm, suc_ℤ-*ℤ}
 use lib.Signed.{mag}
 use Rattle.wire.specs.Sign.{Apart, residue, signed_at, bits_at, integer_of, bits_of, column_of, of_column}
-use Rattle.wire.specs.declared.Bits.TheVariants.{Of, Outside}
 
 -- ---- what the remainder is
 
@@ -110,39 +110,39 @@ signed_remainder h n l =
 -- ---- on the wire, and in a column
 
 -- a number in the range has bits
-pub bits-of : (v : ℤ) → mag v < 2 ^ 28 → bits_of v ≡ Of (bits_at 28 v)
+pub bits-of : (v : ℤ) → mag v < 2 ^ 28 → bits_of v ≡ Some (bits_at 28 v)
 unfolding bits_of
 bits-of v l = simp (lt-ltb (mag v) (2 ^ 28) l)
 
-pub bits-outside : (v : ℤ) → 2 ^ 28 ≤ mag v → bits_of v ≡ Outside
+pub bits-outside : (v : ℤ) → 2 ^ 28 ≤ mag v → bits_of v ≡ None
 unfolding bits_of
 bits-outside v l = simp (le-ltb (mag v) (2 ^ 28) l)
 
 -- what has bits is in the range, and these are its bits
-pub has-bits : (v : ℤ) (n : ℕ) → bits_of v ≡ Of n → (mag v < 2 ^ 28) × (n ≡ bits_at 28 v)
+pub has-bits : (v : ℤ) (n : ℕ) → bits_of v ≡ Some n → (mag v < 2 ^ 28) × (n ≡ bits_at 28 v)
 has-bits v n e =
     elim (dec_lt (mag v) (2 ^ 28)) [
-      | yes a ↦ (let b : bits_of v ≡ Of (bits_at 28 v) = bits-of v a in (a, cc))
-      | no a ↦ (let b : bits_of v ≡ Outside = bits-outside v (omega arith) in let z : ◌≡◌ {A = ℕ} 0 1 = cc in absurd (omega arith))
+      | yes a ↦ (let b : bits_of v ≡ Some (bits_at 28 v) = bits-of v a in (a, cc))
+      | no a ↦ (let b : bits_of v ≡ None = bits-outside v (omega arith) in let z : ◌≡◌ {A = ℕ} 0 1 = cc in absurd (omega arith))
     ]
 
-pub bits_below : (v : ℤ) (n : ℕ) → bits_of v ≡ Of n → n < 2 ^ 29
+pub bits_below : (v : ℤ) (n : ℕ) → bits_of v ≡ Some n → n < 2 ^ 29
 bits_below v n e = let h = has-bits v n e in rw h.1 (bits_lt 28 v h.0)
 
-pub integer-bits : (v : ℤ) (n : ℕ) → bits_of v ≡ Of n → integer_of n ≡ v
+pub integer-bits : (v : ℤ) (n : ℕ) → bits_of v ≡ Some n → integer_of n ≡ v
 unfolding integer_of
 integer-bits v n e =
     let h = has-bits v n e in
     rw (mod-eq_of_lt (bits_below v n e), h.1) (signed-bits 28 v h.0)
 
-pub bits-integer : (n : ℕ) → bits_of (integer_of n) ≡ Of (n % 2 ^ 29)
+pub bits-integer : (n : ℕ) → bits_of (integer_of n) ≡ Some (n % 2 ^ 29)
 unfolding integer_of
 bits-integer n =
     let l : n % 2 ^ 29 < 2 ^ 29 = mod-lt n (lit< tt) in
-    bits-of (signed_at 28 (n % 2 ^ 29)) (signed_lt 28 (n % 2 ^ 29) l) ∙ ap Of (bits-signed 28 (n % 2 ^ 29) l)
+    bits-of (signed_at 28 (n % 2 ^ 29)) (signed_lt 28 (n % 2 ^ 29) l) ∙ ap Some (bits-signed 28 (n % 2 ^ 29) l)
 
 -- an integer that has bits is in the range, and these are its remainder modulo 2 ^ 29
-pub bits_remainder : (v : ℤ) (n : ℕ) → bits_of v ≡ Of n → (mag v < 2 ^ 28) × (n < 2 ^ 29) × Apart (2 ^ 29) v n
+pub bits_remainder : (v : ℤ) (n : ℕ) → bits_of v ≡ Some n → (mag v < 2 ^ 28) × (n < 2 ^ 29) × Apart (2 ^ 29) v n
 bits_remainder v n e =
     let h = has-bits v n e in
     let (l, apart) = residue-is (2 ^ 29) v (lit< tt) in
@@ -154,9 +154,9 @@ unfolding integer_of
 integer_remainder n = signed_remainder 28 (n % 2 ^ 29) (mod-lt n (lit< tt))
 
 -- no other number of the range has that remainder
-pub remainder_only : (v : ℤ) (n : ℕ) → mag v < 2 ^ 28 → n < 2 ^ 29 → Apart (2 ^ 29) v n → (bits_of v ≡ Of n) × (integer_of n ≡ v)
+pub remainder_only : (v : ℤ) (n : ℕ) → mag v < 2 ^ 28 → n < 2 ^ 29 → Apart (2 ^ 29) v n → (bits_of v ≡ Some n) × (integer_of n ≡ v)
 remainder_only v n l g a =
-    let e : bits_of v ≡ Of n = bits-of v l ∙ ap Of (sym (residue-only (2 ^ 29) n v g a)) in
+    let e : bits_of v ≡ Some n = bits-of v l ∙ ap Some (sym (residue-only (2 ^ 29) n v g a)) in
     (e, integer-bits v n e)
 
 -- the same by halves, in document 01's words: n of 2 ^ 28 or more reads as n - 2 ^ 29

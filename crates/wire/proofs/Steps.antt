@@ -1,8 +1,10 @@
 -- The sign rule's steps in an i64, as the code takes them.
+use Rattle.std.proofs.Common.{None}
 use mathlib.Core.Path.{◌≡◌, refl, ap, sym, ◌∙◌}
 use mathlib.Core.Bool.{Bool, true, false}
 use Prim.Native.Nat.{ℕ, zero, suc, ◌+◌, ◌-◌, ◌^◌, ◌%◌, ◌≤◌, ◌<◌}
 use native.Mathlib.Omega.{arith}
+use native.Mathlib.Decide.{dec_lt}
 use native.Mathlib.Nat.{mod-lt, min-eq_left, min-eq_right}
 use borrow.Author.Tests.{le-ltb, lt-ltb, ltb-true, ltb-false}
 use mir.Facts.{to_z-of_z, to_z_pos}
@@ -13,7 +15,6 @@ use lib.IntN.{ℤ, pos, negsuc, neg_ℤ, nat_abs, ◌+ℤ◌, ◌-ℤ◌}
 use lib.Signed.{mag, lt_z, non_neg}
 use Rattle.wire.specs.Sign.{residue, bits_at, integer_of, bits_of, column_of, of_column}
 use Rattle.wire.specs.Date.{bounded}
-use Rattle.wire.specs.declared.Bits.TheVariants.{Outside}
 use Rattle.wire.proofs.Sign.{residue_turn, bits-low, bits-high, signed_low, signed_high, bits-outside, integer_remainder, column_remainder}
 
 -- what the code has of a number z
@@ -91,26 +92,21 @@ module _ {v : ℤ} (f : SFits w64 v) where
   negative : lt_z (i64 v) (pos 0) ≡ true → i64 v ≡ negsuc (mag v)
   negative n = to_z-of_z f ∙ below v (rw (to_z-of_z f) at n)
 
-  pub rest : lt_z (i64 v) (pos 0) ≡ true → negsuc 0 -ℤ i64 v ≡ pos (mag v)
-  rest n = rw (negative n) (from-negative (mag v))
-
-  pub rest-column : lt_z (i64 v) (pos 0) ≡ true → 2 ^ 64 - 1 - mag v ≡ column_of v
+  pub column-is : of_z w64 (i64 v) ≡ column_of v
   unfolding column_of
-  rest-column n =
-      let l : mag v < 2 ^ 63 = f.sfits in
-      sym (ap (bits_at 63) (sym (to_z-of_z f) ∙ negative n) ∙ bits-high 63 (mag v) (omega arith) ∙ omega arith)
-
-  pub natural-column : lt_z (i64 v) (pos 0) ≡ false → mag v ≡ column_of v
-  unfolding column_of
-  natural-column n = let l : mag v < 2 ^ 63 = f.sfits in sym (ap (bits_at 63) (natural n) ∙ bits-low 63 (mag v) (omega arith))
+  column-is = rw (to_z-of_z f) (by v f.sfits)
+    where
+      by : (z : ℤ) → mag z < 2 ^ 63 → of_z w64 z ≡ bits_at 63 z
+      by (pos n) l = sym (bits-low 63 n (omega arith))
+      by (negsuc n) l = sym (bits-high 63 n (omega arith))
 
   pub in_range : lt_z (i64 v) (negsuc 0x0fff_ffff) ≡ false → lt_z (pos 0x0fff_ffff) (i64 v) ≡ false → mag v < 2 ^ 28
   in_range a b = omega (arith, between v 0x0fff_ffff (rw (to_z-of_z f) at a) (rw (to_z-of_z f) at b))
 
-  pub too_low : lt_z (i64 v) (negsuc 0x0fff_ffff) ≡ true → bits_of v ≡ Outside
+  pub too_low : lt_z (i64 v) (negsuc 0x0fff_ffff) ≡ true → bits_of v ≡ None
   too_low a = bits-outside v (lower v 0x0fff_ffff (rw (to_z-of_z f) at a))
 
-  pub too_high : lt_z (pos 0x0fff_ffff) (i64 v) ≡ true → bits_of v ≡ Outside
+  pub too_high : lt_z (pos 0x0fff_ffff) (i64 v) ≡ true → bits_of v ≡ None
   too_high a = bits-outside v (higher v 0x0fff_ffff (rw (to_z-of_z f) at a))
 
   pub raised_is : mag v < 2 ^ 28 → i64 v +ℤ pos (2 ^ 29) ≡ pos (raised v)
@@ -132,15 +128,13 @@ module _ (n : ℕ) where
   integer-is = rw (to_z_pos w64 {n = turned} (omega (arith, turned_lt)))
 
 module _ (x : ℕ) where
-  pub column-clear : x < 2 ^ 63 → to_z w64 x ≡ of_column x
+  pub signed-is : x < 2 ^ 64 → to_z w64 x ≡ of_column x
   unfolding of_column
-  column-clear l = to_z_pos w64 l ∙ sym (signed_low 63 x l)
-
-  pub column-set : 2 ^ 63 ≤ x → x < 2 ^ 64 → negsuc 0 -ℤ to_z w64 (2 ^ 64 - 1 - x) ≡ of_column x
-  unfolding of_column
-  column-set l g =
-      rw (to_z_pos w64 {n = 2 ^ 64 - 1 - x} (omega arith), from-natural (2 ^ 64 - 1 - x))
-      (ap negsuc (omega arith) ∙ sym (signed_high 63 x l g))
+  signed-is g =
+      elim (dec_lt x (2 ^ 63)) [
+        | yes l ↦ rw (lt-ltb x (2 ^ 63) l) (sym (signed_low 63 x l))
+        | no l ↦ rw (le-ltb x (2 ^ 63) (omega arith)) (sym (signed_high 63 x (omega arith) g))
+      ]
 
   pub column_fits : x < 2 ^ 64 → mag (of_column x) < 2 ^ 63
   column_fits l = (column_remainder x l).0

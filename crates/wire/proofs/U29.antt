@@ -1,4 +1,5 @@
 -- How the definition of a U29 goes on by one byte, and what bounds it.
+use Rattle.std.proofs.Common.{Option, Some, None}
 use mathlib.Core.Path.{◌≡◌, refl, ap, sym, ◌∙◌}
 use mathlib.Core.Bool.{Bool, true, false, cond}
 use mathlib.Core.List.{List, [], ◌∷◌, ◌++◌}
@@ -13,8 +14,7 @@ use lib.ListN.{length, drop, get_or, set, drop_of_length-le}
 use lib.Pow.{pow_mono, pow_pos}
 use lib.Seq.{drop-cons, sets}
 use Rattle.wire.specs.declared.Part.{Part}
-use Rattle.wire.specs.declared.Part.TheVariants.{More, Whole, Astray}
-use Rattle.wire.specs.declared.Read.TheVariants.{Short}
+use Rattle.wire.specs.declared.Part.TheVariants.{More, Whole}
 use Rattle.wire.specs.U29.{part_of, rest_of, go_on, groups, last_bits, more_of, u29}
 use Rattle.wire.proofs.Digits.{one_more, before_small, given, can, cannot, guard, row-length, row-bytes, put_first}
 use Rattle.wire.proofs.Octets.{Bytes}
@@ -22,24 +22,24 @@ use Rattle.wire.proofs.Octets.{Bytes}
 -- ---- one byte
 
 module _ (left n b : ℕ) (within : left ≤ 3) (small : n < 2 ^ (7 * (3 - left))) where
-  pub part-fourth : left ≡ 0 → part_of left n b ≡ Whole (n * 2 ^ 8 + b)
+  pub part-fourth : left ≡ 0 → part_of left n b ≡ Some (Whole (n * 2 ^ 8 + b))
   unfolding part_of
   part-fourth z = given 7 3 left n _ within small ∙ simp (eq-eqb left 0 z)
 
-  pub part-last : 0 < left → b < 2 ^ 7 → part_of left n b ≡ Whole (n * 2 ^ 7 + b)
+  pub part-last : 0 < left → b < 2 ^ 7 → part_of left n b ≡ Some (Whole (n * 2 ^ 7 + b))
   unfolding part_of
   part-last l h = given 7 3 left n _ within small ∙ simp (ne_eqb left 0 (λ z. omega arith), lt-ltb b _ h)
 
-  pub part-more : 0 < left → 2 ^ 7 ≤ b → part_of left n b ≡ More (n * 2 ^ 7 + (b - 2 ^ 7))
+  pub part-more : 0 < left → 2 ^ 7 ≤ b → part_of left n b ≡ Some (More (n * 2 ^ 7 + (b - 2 ^ 7)))
   unfolding part_of
   part-more l h = given 7 3 left n _ within small ∙ simp (ne_eqb left 0 (λ z. omega arith), le-ltb b _ h)
 
 -- a byte is astray, or the fourth, or the last of fewer, or says more
-pub data Step (left n b : ℕ) : Part → Type 0 where
-  astray : (left ≤ 3 → n < 2 ^ (7 * (3 - left)) → ⊥) → Step left n b Astray
-  fourth : left ≡ 0 → n < 2 ^ 21 → Step left n b (Whole (n * 2 ^ 8 + b))
-  last : 0 < left → left ≤ 3 → n < 2 ^ (7 * (3 - left)) → b < 2 ^ 7 → Step left n b (Whole (n * 2 ^ 7 + b))
-  more : 0 < left → left ≤ 3 → n < 2 ^ (7 * (3 - left)) → 2 ^ 7 ≤ b → Step left n b (More (n * 2 ^ 7 + (b - 2 ^ 7)))
+pub data Step (left n b : ℕ) : Option Part → Type 0 where
+  astray : (left ≤ 3 → n < 2 ^ (7 * (3 - left)) → ⊥) → Step left n b None
+  fourth : left ≡ 0 → n < 2 ^ 21 → Step left n b (Some (Whole (n * 2 ^ 8 + b)))
+  last : 0 < left → left ≤ 3 → n < 2 ^ (7 * (3 - left)) → b < 2 ^ 7 → Step left n b (Some (Whole (n * 2 ^ 7 + b)))
+  more : 0 < left → left ≤ 3 → n < 2 ^ (7 * (3 - left)) → 2 ^ 7 ≤ b → Step left n b (Some (More (n * 2 ^ 7 + (b - 2 ^ 7))))
 
 pub step : (left n b : ℕ) → Step left n b (part_of left n b)
 unfolding part_of
@@ -56,10 +56,10 @@ step left n b =
     ]
 
 -- a byte that says more is not the fourth, and leaves a number that bytes can give
-pub part-within : (left n b m : ℕ) → b < 256 → part_of left n b ≡ More m → (0 < left) × (m < 2 ^ (7 * (3 - (left - 1))))
+pub part-within : (left n b m : ℕ) → b < 256 → part_of left n b ≡ Some (More m) → (0 < left) × (m < 2 ^ (7 * (3 - (left - 1))))
 part-within left n b m hb = within (step left n b)
   where
-    within : {x : Part} → Step left n b x → x ≡ More m → (0 < left) × (m < 2 ^ (7 * (3 - (left - 1))))
+    within : {x : Option Part} → Step left n b x → x ≡ Some (More m) → (0 < left) × (m < 2 ^ (7 * (3 - (left - 1))))
     within (astray a) e = let z : ◌≡◌ {A = ℕ} 0 1 = cc in absurd (omega arith)
     within (fourth z f) e = let z : ◌≡◌ {A = ℕ} 0 1 = cc in absurd (omega arith)
     within (last l h f g) e = let z : ◌≡◌ {A = ℕ} 0 1 = cc in absurd (omega arith)
@@ -77,12 +77,12 @@ module _ (s : List ℕ) (p left n : ℕ) where
       rw (drop-cons s p 0)
       (ap (λ (k : ℕ). go_on (λ m. rest_of (left - 1) m (drop k s) (p + 1)) (p + 1) (part_of left n (get_or s p 0))) (sym (add-one p)))
 
-  pub rest_end : length s ≤ p → rest_of left n (drop p s) p ≡ Short
+  pub rest_end : length s ≤ p → rest_of left n (drop p s) p ≡ None
   unfolding rest_of
   rest_end h = rw (drop_of_length-le s h)
 
   -- by what the byte at p gives
-  pub rest_part : (x y : Part) → p < length s → x ≡ part_of left n (get_or s p 0) → x ≡ y
+  pub rest_part : (x y : Option Part) → p < length s → x ≡ part_of left n (get_or s p 0) → x ≡ y
       → rest_of left n (drop p s) p ≡ go_on (λ m. rest_of (left - 1) m (drop (p + 1) s) (p + 1)) (p + 1) y
   rest_part x y h e f = rest-byte h ∙ ap (go_on (λ m. rest_of (left - 1) m (drop (p + 1) s) (p + 1)) (p + 1)) (sym e ∙ f)
 

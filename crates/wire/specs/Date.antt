@@ -1,9 +1,7 @@
 -- Dates: a double's 64 bits, on the wire and in a row; milliseconds where they are asked for.
-use Rattle.std.specs.Prelude.{Bool, true, false, cond, not, ℕ, ◌-◌, ◌^◌, min, ℤ, pos, neg_ℤ, Float}
+use Rattle.std.specs.Prelude.{Option, Some, None, Bool, true, false, cond, not, ℕ, ◌-◌, ◌^◌, min, ℤ, pos, neg_ℤ, Float}
 use Rattle.std.specs.Float.{nan, inf, fin, binary64}
 use Rattle.std.specs.Float.Ieee.{of_bits, to_signed}
-use Rattle.wire.specs.declared.Moment.{Moment}
-use Rattle.wire.specs.declared.Moment.TheVariants.{None, At}
 
 -- neither NaN nor infinite
 unfoldable pub finite : Float → Bool
@@ -16,8 +14,8 @@ unfoldable pub refused_date : ℕ → Bool
 refused_date b = not (finite (of_bits binary64 b))
 
 -- milliseconds: cut towards zero, held at -2 ^ 63 and at 2 ^ 63 - 1
-unfoldable pub moment_of : ℕ → Moment
-moment_of b = cond (refused_date b) None (At (to_signed 63 (of_bits binary64 b)))
+unfoldable pub moment_of : ℕ → Option ℤ
+moment_of b = cond (refused_date b) None (Some (to_signed 63 (of_bits binary64 b)))
 
 -- a whole part with its sign, held at the same ends
 abbrev pub bounded : Bool → ℕ → ℤ

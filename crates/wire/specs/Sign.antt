@@ -1,9 +1,7 @@
 -- Two's complement, once over the number of bits: the remainder, and its inverse.
-use Rattle.std.specs.Prelude.{cond, ◌≡◌, ℕ, suc, ◌+◌, ◌-◌, ◌^◌, ◌%◌, ltb, ℤ, pos, negsuc, ◌+ℤ◌, ◌*ℤ◌}
+use Rattle.std.specs.Prelude.{Option, Some, None, cond, ◌≡◌, ℕ, suc, ◌+◌, ◌-◌, ◌^◌, ◌%◌, ltb, ℤ, pos, negsuc, ◌+ℤ◌, ◌*ℤ◌}
 use Rattle.std.proofs.Math.IntN.{sub_ℕ}
 use Rattle.std.specs.Int.Signed.{mag}
-use Rattle.wire.specs.declared.Bits.{Bits}
-use Rattle.wire.specs.declared.Bits.TheVariants.{Of, Outside}
 
 -- v and r are a multiple of m apart
 abbrev pub Apart : ℕ → ℤ → ℕ → Type 0
@@ -27,8 +25,8 @@ unfoldable pub integer_of : ℕ → ℤ
 integer_of n = signed_at 28 (n % 2 ^ 29)
 
 -- the 29 bits of an integer from - 2 ^ 28 to 2 ^ 28 - 1 (`mag` counts from 0 up and from -1 down); another has none
-unfoldable pub bits_of : ℤ → Bits
-bits_of v = cond (ltb (mag v) (2 ^ 28)) (Of (bits_at 28 v)) Outside
+unfoldable pub bits_of : ℤ → Option ℕ
+bits_of v = cond (ltb (mag v) (2 ^ 28)) (Some (bits_at 28 v)) None
 
 -- a signed number of 64 bits as a column holds it, and back
 unfoldable pub column_of : ℤ → ℕ

@@ -13,29 +13,8 @@ ghost use Rattle.wire.specs.Put.{with1, put_at};
 ghost use Rattle.wire.specs.U29.{part_of, u29_at, more_of, form_of, u29};
 ghost use Rattle.wire.specs.Word.{size_of, shape_of};
 ghost use Rattle.wire.specs.Sign.{integer_of, bits_of, column_of, of_column};
-ghost use Rattle.wire.specs.Big.{number_at, digit_of, bytes_of};
+ghost use Rattle.wire.specs.Big.{bytes_at, number_at, digit_of, bytes_of};
 ghost use Rattle.wire.specs.Date.{refused_date, moment_of, bounded};
-
-// A number read at a place, with the place behind it.
-#[derive(Clone, Copy)]
-pub enum Read {
-    Value(usize, usize),
-    Short,
-}
-
-// The place behind the bytes that were put; or they had no room, and none was put.
-#[derive(Clone, Copy)]
-pub enum Put {
-    At(usize),
-    Full,
-}
-
-// The bits of a number, if it has any in its range.
-#[derive(Clone, Copy)]
-pub enum Bits {
-    Of(usize),
-    Outside,
-}
 
 // Whether `count` more fit behind `at` in `len`.
 pub fn fits(len: usize, at: usize, count: usize) -> bool
@@ -49,53 +28,49 @@ pub fn fits(len: usize, at: usize, count: usize) -> bool
 
 // ---- U29
 
-// What is known of a number after one byte more; astray where the numbers in hand are no part of one.
-#[derive(Clone, Copy)]
+// What is known of a number after one byte more.
+#[derive(Clone, Copy, PartialEq, Eq)]
 pub enum Part {
     More(usize),
     Whole(usize),
-    Astray,
 }
 
-// The byte `b` of a U29, of which `left` more may come; those before it gave `n`.
-pub fn u29_byte(left: usize, n: usize, b: u8) -> Part
+// The byte `b` of a U29, of which `left` more may come; those before it gave `n`. None: astray, the numbers in hand are no part of a U29.
+pub fn u29_byte(left: usize, n: usize, b: u8) -> Option<Part>
     ensures { result ≡ part_of left n b }
 {
     if 3 < left {
-        return Part::Astray;
+        return None;
     }
     let before = 7 * (3 - left);
     if n >> before != 0 {
-        return Part::Astray;
+        return None;
     }
     if left == 0 {
-        return Part::Whole((n << 8usize) | (b as usize));
+        return Some(Part::Whole((n << 8usize) | usize::from(b)));
     }
     if b & 0x80 == 0 {
-        return Part::Whole((n << 7usize) | (b as usize));
+        return Some(Part::Whole((n << 7usize) | usize::from(b)));
     }
-    Part::More((n << 7usize) | ((b & 0x7f) as usize))
+    Some(Part::More((n << 7usize) | usize::from(b & 0x7f)))
 }
 
-pub fn read_u29(src: &[u8], at: usize) -> Read
+// The U29 at a place, with the place behind it. None: the bytes end too early.
+pub fn read_u29(src: &[u8], at: usize) -> Option<(usize, usize)>
     ensures { result ≡ u29_at src.now at }
 {
-    let mut p = at;
     let mut left: usize = 3;
     let mut n: usize = 0;
-    while p < src.len() {
-        let x = u29_byte(left, n, src[p]);
-        p += 1;
-        match x {
-            Part::Whole(v) => return Read::Value(v, p),
+    for p in at..src.len() {
+        match u29_byte(left, n, src[p])? {
+            Part::Whole(v) => return Some((v, p + 1)),
             Part::More(m) => {
                 n = m;
                 left -= 1;
             }
-            Part::Astray => return Read::Short,
         }
     }
-    Read::Short
+    None
 }
 
 // How many bytes of the shortest form of `n` stand before its last.
@@ -120,32 +95,28 @@ fn put_form(out: &mut [u8], at: usize, n: usize, k: usize)
 {
     let last: usize = if k == 3 { 8 } else { 7 };
     let m = n >> last;
-    let mut p = at;
-    let mut j = k;
-    while 0 < j {
-        j -= 1;
-        out[p] = (((m >> (7 * j)) & 0x7f) | 0x80) as u8;
-        p += 1;
+    for i in 0..k {
+        out[at + i] = (((m >> (7 * (k - 1 - i))) & 0x7f) | 0x80) as u8;
     }
-    out[p] = (n & ((1 << last) - 1)) as u8;
+    out[at + k] = (n & ((1 << last) - 1)) as u8;
 }
 
-// Puts the shortest form of `n`.
-pub fn put_u29(out: &mut [u8], at: usize, n: usize) -> Put
+// Puts the shortest form of `n`, and gives the place behind it. None: it has no room, and nothing is put.
+pub fn put_u29(out: &mut [u8], at: usize, n: usize) -> Option<usize>
     ensures { with1 result out.new ≡ put_at out.old at (u29 n) }
 {
     let k = u29_more(n);
-    if fits(out.len(), at, k + 1) {
-        put_form(out, at, n, k);
-        return Put::At(at + (k + 1));
+    if !fits(out.len(), at, k + 1) {
+        return None;
     }
-    Put::Full
+    put_form(out, at, n, k);
+    Some(at + (k + 1))
 }
 
 // ---- size words
 
 // A reference by number, or a length.
-#[derive(Clone, Copy)]
+#[derive(Clone, Copy, PartialEq, Eq)]
 pub enum Size {
     Old(usize),
     New(usize),
@@ -161,7 +132,7 @@ pub fn size_of(w: usize) -> Size
 }
 
 // An object by number; a new one of a known trait, of an externalizable class, or of a trait with so many names, dynamic (1) or not.
-#[derive(Clone, Copy)]
+#[derive(Clone, Copy, PartialEq, Eq)]
 pub enum Shape {
     Object(usize),
     Known(usize),
@@ -205,143 +176,111 @@ pub fn integer(n: usize) -> i64
     (turned as i64) - (HALF as i64)
 }
 
-// The 29 bits of an integer: its remainder. A modulus is added to every number, so that none is negative; the remainder stays.
-pub fn integer_bits(v: i64) -> Bits
+// The 29 bits of an integer: its remainder. A modulus is added to every number, so that none is negative; the remainder stays. None: it is out of the range.
+pub fn integer_bits(v: i64) -> Option<usize>
     ensures { result ≡ bits_of v }
 {
-    if v < LEAST {
-        return Bits::Outside;
+    if v < LEAST || GREATEST < v {
+        return None;
     }
-    if GREATEST < v {
-        return Bits::Outside;
-    }
-    Bits::Of(((v + (MODULUS as i64)) as usize) % MODULUS)
+    Some(((v + (MODULUS as i64)) as usize) % MODULUS)
 }
 
-// The column of a signed number.
+// The column of a signed number. Not From: both types are std's.
 pub fn column(v: i64) -> usize
     ensures { result ≡ column_of v }
 {
-    if v < 0 {
-        let below = (-1 - v) as usize;
-        return 0xffff_ffff_ffff_ffff - below;
-    }
-    v as usize
+    v.cast_unsigned() as usize
 }
 
+// The signed number of a column.
 pub fn of_column(x: usize) -> i64
     ensures { result ≡ of_column x }
 {
-    if x < 0x8000_0000_0000_0000 {
-        return x as i64;
-    }
-    let below = (0xffff_ffff_ffff_ffff - x) as i64;
-    -1 - below
+    (x as u64).cast_signed()
 }
 
 // ---- big-endian numbers
 
-fn wide(x: u8) -> usize
-    ensures { result ≡ x }
+// The `N` bytes at a place, with the place behind them. None: they are not all there.
+fn bytes_at<const N: usize>(src: &[u8], at: usize) -> Option<([u8; N], usize)>
+    ensures { result ≡ bytes_at N src.now at }
 {
-    x as usize
+    let bytes: &[u8; N] = src.get(at..)?.first_chunk()?;
+    Some((*bytes, at + N))
 }
 
-// Each byte is shifted to its place: this compiles to one load and a swap of its bytes.
-pub fn read_be64(src: &[u8], at: usize) -> Read
+// The number in eight bytes at a place, with the place behind it. None: they are not all there. This compiles to one load and a swap of its bytes.
+pub fn read_be64(src: &[u8], at: usize) -> Option<(usize, usize)>
     ensures { result ≡ number_at 8 src.now at }
 {
-    if fits(src.len(), at, 8) {
-        let next = at + 8;
-        let s = &src[at..next];
-        let n = (wide(s[0]) << 56usize)
-            | (wide(s[1]) << 48usize)
-            | (wide(s[2]) << 40usize)
-            | (wide(s[3]) << 32usize)
-            | (wide(s[4]) << 24usize)
-            | (wide(s[5]) << 16usize)
-            | (wide(s[6]) << 8usize)
-            | wide(s[7]);
-        return Read::Value(n, next);
-    }
-    Read::Short
+    let (bytes, next) = bytes_at(src, at)?;
+    Some((usize::from_be_bytes(bytes), next))
 }
 
-pub fn read_be32(src: &[u8], at: usize) -> Read
+// The same of four bytes.
+pub fn read_be32(src: &[u8], at: usize) -> Option<(usize, usize)>
     ensures { result ≡ number_at 4 src.now at }
 {
-    if fits(src.len(), at, 4) {
-        let next = at + 4;
-        let s = &src[at..next];
-        let n = (wide(s[0]) << 24usize)
-            | (wide(s[1]) << 16usize)
-            | (wide(s[2]) << 8usize)
-            | wide(s[3]);
-        return Read::Value(n, next);
-    }
-    Read::Short
+    let (bytes, next) = bytes_at(src, at)?;
+    Some((u32::from_be_bytes(bytes) as usize, next))
 }
 
-// The byte `b` of a number of eight, of which `left` more come; those before it gave `n`.
-pub fn be64_byte(left: usize, n: usize, b: u8) -> Part
+// The byte `b` of a number of eight, of which `left` more come; those before it gave `n`. None: astray, the numbers in hand are no part of one.
+pub fn be64_byte(left: usize, n: usize, b: u8) -> Option<Part>
     ensures { result ≡ digit_of left n b }
 {
     if 7 < left {
-        return Part::Astray;
+        return None;
     }
     let before = 8 * (7 - left);
     if n >> before != 0 {
-        return Part::Astray;
+        return None;
     }
-    let next = (n << 8usize) | (b as usize);
+    let next = (n << 8usize) | usize::from(b);
     if left == 0 {
-        return Part::Whole(next);
+        return Some(Part::Whole(next));
     }
-    Part::More(next)
+    Some(Part::More(next))
 }
 
-fn put_be(out: &mut [u8], at: usize, n: usize, width: usize)
-    requires { (width ≤ 8) × (at + width ≤ length out.old) }
-    ensures { out.new ≡ sets out.old at (bytes_of width n) }
+// Stores bytes as a whole: a copy of slices tests first whether they overlap, which is slower.
+fn store<const N: usize>(place: &mut [u8], bytes: [u8; N])
+    requires { length place.old ≡ N }
+    ensures { place.new ≡ bytes.entry }
 {
-    let mut p = at;
-    let mut j = width;
-    while 0 < j {
-        j -= 1;
-        out[p] = ((n >> (8 * j)) & 0xff) as u8;
-        p += 1;
+    if let Some(whole) = place.as_mut_array() {
+        *whole = bytes;
     }
 }
 
-pub fn put_be64(out: &mut [u8], at: usize, n: usize) -> Put
+// Puts bytes at a place, and gives the place behind them. None: they have no room, and nothing is put.
+fn put_bytes<const N: usize>(out: &mut [u8], at: usize, bytes: &[u8; N]) -> Option<usize>
+    ensures { with1 result out.new ≡ put_at out.old at bytes.now }
+{
+    if !fits(out.len(), at, N) {
+        return None;
+    }
+    let next = at + N;
+    store(&mut out[at..next], *bytes);
+    Some(next)
+}
+
+// Puts the eight bytes of `n`, and gives the place behind them. None: they have no room, and nothing is put.
+pub fn put_be64(out: &mut [u8], at: usize, n: usize) -> Option<usize>
     ensures { with1 result out.new ≡ put_at out.old at (bytes_of 8 n) }
 {
-    if fits(out.len(), at, 8) {
-        put_be(out, at, n, 8);
-        return Put::At(at + 8);
-    }
-    Put::Full
+    put_bytes(out, at, &n.to_be_bytes())
 }
 
-// Puts the low 32 bits of `n`.
-pub fn put_be32(out: &mut [u8], at: usize, n: usize) -> Put
+// The same of the low 32 bits of `n`, in four bytes.
+pub fn put_be32(out: &mut [u8], at: usize, n: usize) -> Option<usize>
     ensures { with1 result out.new ≡ put_at out.old at (bytes_of 4 n) }
 {
-    if fits(out.len(), at, 4) {
-        put_be(out, at, n, 4);
-        return Put::At(at + 4);
-    }
-    Put::Full
+    put_bytes(out, at, &((n & 0xffff_ffff) as u32).to_be_bytes())
 }
 
 // ---- dates
-
-// Milliseconds, or bits that no date has.
-#[derive(Clone, Copy)]
-pub enum Moment {
-    None,
-    At(i64),
-}
 
 // A double's sign bit, and the bits of its size.
 const SIGN: usize = 0x8000_0000_0000_0000;
@@ -352,9 +291,9 @@ const SIZE: usize = 0x7fff_ffff_ffff_ffff;
 const INFINITE: usize = 0x7ff0_0000_0000_0000;
 
 // The ends of the milliseconds' range, and the first whole part past it.
-const EARLIEST: i64 = -0x8000_0000_0000_0000;
+const EARLIEST: i64 = i64::MIN;
 
-const LATEST: i64 = 0x7fff_ffff_ffff_ffff;
+const LATEST: i64 = i64::MAX;
 
 const PAST: usize = 0x8000_0000_0000_0000;
 
@@ -381,7 +320,7 @@ fn whole_part(size: usize) -> usize
     if e <= 1086 {
         return m << (e - 1075);
     }
-    0xffff_ffff_ffff_ffff
+    usize::MAX
 }
 
 // A whole part with its sign, held at the ends of the range.
@@ -400,13 +339,13 @@ fn signed(negative: bool, whole: usize) -> i64
     LATEST
 }
 
-// The milliseconds of a date's bits: by shifts, then the sign.
-pub fn moment_of(bits: usize) -> Moment
+// The milliseconds of a date's bits: by shifts, then the sign. None: no date has these bits.
+pub fn moment_of(bits: usize) -> Option<i64>
     ensures { result ≡ moment_of bits }
 {
-    if is_date(bits) {
-        let whole = whole_part(bits & SIZE);
-        return Moment::At(signed(SIGN <= bits, whole));
+    if !is_date(bits) {
+        return None;
     }
-    Moment::None
+    let whole = whole_part(bits & SIZE);
+    Some(signed(SIGN <= bits, whole))
 }

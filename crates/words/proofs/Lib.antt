@@ -1,3 +1,4 @@
-pub mod Rooms
-pub mod Shapes
 pub mod Bodies
+pub mod Rooms
+pub mod Sizes
+pub mod Uses

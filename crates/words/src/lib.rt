@@ -1,315 +1,175 @@
-// What a reading that waits goes on with once a word is whole: a string, a body, an object or an integer. The frames of the open values lie behind
-// `frames`, `depth` of them open.
+// What a reading that waits goes on with once a word is whole: a string, a body, an object or an integer.
 
 #![tactic(auto)]
 
-ghost use Rattle.resume.specs.Steps.{Steps};
-ghost use Rattle.rows.specs.Memory.{kept};
-ghost use Rattle.std.specs.Prelude.{◌≡◌, List, ℕ, ◌*◌, ◌^◌, ◌<◌, length};
-ghost use Rattle.rows.specs.Memory.{Memory, memory, no_span};
-ghost use Rattle.decide.specs.Outcomes.{leaving, done_of, body_in, width_in};
+ghost use Rattle.std.specs.Prelude.{◌≡◌, ◌*◌, ◌^◌, ◌<◌};
+ghost use Rattle.rows.specs.Memory.{open_most, no_span};
 ghost use Rattle.wire.specs.declared.Size.TheVariants.{New};
-ghost use Rattle.wire.specs.Put.{with1};
 ghost use Rattle.wire.specs.Word.{size_of, shape_of};
 ghost use Rattle.format.specs.Decide as d;
 ghost use Rattle.format.specs.Step as s;
-ghost use Rattle.format.specs.Numbers.{with_body, work, no_trait};
-ghost use Rattle.format.specs.Numbers.{no_work, use_work, body_purpose};
-ghost use Rattle.resume.specs.Steps.{on_text};
-ghost use Rattle.format.specs.Numbers.{with_use, with_word, with_raw};
-ghost use Rattle.resume.specs.Steps.{reserved_by};
-ghost use Rattle.states.specs.Purposes.{IsUse, IsWord, IsRaw};
-ghost use Rattle.rows.specs.Memory.{open_most};
+ghost use Rattle.format.specs.Numbers.{with_body, work, no_trait, of_dynamic, no_work, use_work, body_purpose, with_use, with_word, with_raw};
 ghost use Rattle.format.specs.Codes.{mode_flag};
+ghost use Rattle.decide.specs.Outcomes.{body_in, width_in};
+ghost use Rattle.states.specs.Purposes.{IsUse, IsWord, IsRaw};
+ghost use Rattle.resume.specs.Steps.{Steps, Decides, Rooms, reserved_by};
 
-use decide::{Body, Done, Text, Traited, Width};
-use format::{Frames, Work, modes, purposes};
-use resume::Next;
-use rows::{Cursor, Span};
+use decide::{Body, Width};
+use format::{Refusal, Work, modes, purposes};
+use resume::{Feeding, Next};
+use rows::{Span, Trait};
 use wire::{Shape, Size};
 
-// ---- words
+// ---- strings
 
 // The work of a use, which goes on with so many bytes left.
 pub fn use_work(w: Work, mode: usize, left: usize, part: usize, span: Span) -> Work
     requires { IsUse w }
     ensures { result ≡ with_use no_work w (λ u. use_work mode u left part span) }
 {
-    let row = w.row;
-    let none = resume::no_trait();
-    let purpose = w.purpose;
-    match purpose {
-        purposes::STRING => resume::whole_work(
-            mode,
-            purposes::STRING,
-            row,
-            left,
-            part,
-            span,
-            none,
-            0,
-            0,
-        ),
-        purposes::KEY => resume::whole_work(
-            mode,
-            purposes::KEY,
-            row,
-            left,
-            part,
-            span,
-            none,
-            w.count,
-            w.done,
-        ),
-        purposes::DYNAMIC_KEY => resume::whole_work(
-            mode,
-            purposes::DYNAMIC_KEY,
-            row,
-            left,
-            part,
-            span,
-            none,
-            0,
-            w.done,
-        ),
-        purposes::CLASS => resume::whole_work(
-            mode,
-            purposes::CLASS,
-            row,
-            left,
-            part,
-            span,
-            resume::dynamic_trait(w.kind.dynamic),
-            w.count,
-            0,
-        ),
-        purposes::EXTERNAL => resume::whole_work(
-            mode,
-            purposes::EXTERNAL,
-            0,
-            left,
-            part,
-            span,
-            none,
-            0,
-            0,
-        ),
-        purposes::NAME => resume::whole_work(
-            mode,
-            purposes::NAME,
-            row,
-            left,
-            part,
-            span,
-            w.kind,
-            w.count,
-            0,
-        ),
-        _ => resume::whole_work(
-            mode,
-            purposes::VECTOR_CLASS,
-            row,
-            left,
-            part,
-            span,
-            none,
-            w.count,
-            0,
-        ),
+    let plain = Work {
+        mode,
+        purpose: w.purpose,
+        row: w.row,
+        left,
+        part,
+        span,
+        ..Work::default()
+    };
+    match w.purpose {
+        purposes::KEY => Work {
+            count: w.count,
+            done: w.done,
+            ..plain
+        },
+        purposes::DYNAMIC_KEY => Work {
+            done: w.done,
+            ..plain
+        },
+        purposes::CLASS => Work {
+            kind: of_dynamic(w.kind.dynamic),
+            count: w.count,
+            ..plain
+        },
+        purposes::EXTERNAL => Work { row: 0, ..plain },
+        purposes::NAME => Work {
+            kind: w.kind,
+            count: w.count,
+            ..plain
+        },
+        purposes::VECTOR_CLASS => Work {
+            count: w.count,
+            ..plain
+        },
+        _ => plain,
+    }
+}
+
+// A trait of which only this is known.
+fn of_dynamic(dynamic: usize) -> Trait
+    ensures { result ≡ of_dynamic dynamic }
+{
+    Trait {
+        dynamic,
+        ..Trait::default()
     }
 }
 
 // A string's span is reserved: a string value's row shows it at once.
-fn reserved_for(rows: &mut [usize], c: Cursor, w: Work, p: Span) -> Done
-    ensures { with1 (done_of result) rows.new ≡ leaving rows.old (reserved_by w p rows.old c) }
+fn reserved_for(f: &mut Feeding, w: Work, p: Span) -> Result<(), Refusal>
+    ensures { Decides result f.old f.new (reserved_by w p) }
 {
     if w.purpose == purposes::STRING {
-        return decide::bodied(rows, c, w.row, p);
+        f.bodied(w.row, p)?;
     }
-    Done::Fine(c)
+    Ok(())
 }
 
 // Room for the text of a new string.
-fn string_new(rows: &mut [usize], store: &[u8], c: Cursor, depth: usize, w: Work, n: usize) -> Next
-    requires { (IsUse w) × (0 < n) }
-    ensures { (F T O U N : List ℕ)
-        → Steps result (kept F) depth rows (kept store.now) (kept T) (kept O) (kept U) (kept N) (λ ts m. with_use (s.broken m) w (λ u. s.string_sized ts u (New n) c m)) }
+fn string_new(f: &mut Feeding, w: Work, n: usize) -> Result<Next, Refusal>
+    requires used { IsUse w }
+    requires some { 0 < n }
+    ensures { Steps result f.old f.new (λ ts c m. with_use (s.broken m) w (λ u. s.string_sized ts u (New n) c m)) }
 {
-    let a = decide::reserved(store.len(), c, n);
-    let Text::Have(p, c1) = a else {
-        return Next::Refused(decide::no_text(a));
-    };
-    let b = reserved_for(rows, c1, w, p);
-    let Done::Fine(c2) = b else {
-        return Next::Refused(decide::not_done(b));
-    };
-    Next::Wait(use_work(w, modes::TEXT, n - 1, 0, p), c2, depth)
+    let p = f.reserved(n)?;
+    reserved_for(f, w, p)?;
+    Ok(Next::Wait(use_work(w, modes::TEXT, n - 1, 0, p)))
 }
 
 // A string's size word is whole.
-fn string_sized(
-    rows: &mut [usize],
-    store: &[u8],
-    strings: &[usize],
-    traits: &mut [usize],
-    names: &mut [usize],
-    frames: &mut Frames,
-    c: Cursor,
-    depth: usize,
-    w: Work,
-    n: usize,
-) -> Next
-    requires { (depth < open_most) × IsUse w }
-    ensures { (O : List ℕ) → Steps result frames depth rows (kept store.now) (kept strings.now) (kept O) traits names
-        (λ ts m. with_use (s.broken m) w (λ u. s.string_sized ts u (size_of n) c m)) }
+fn string_sized(f: &mut Feeding, w: Work, n: usize) -> Result<Next, Refusal>
+    requires open { f.old.depth < open_most }
+    requires used { IsUse w }
+    ensures { Steps result f.old f.new (λ ts c m. with_use (s.broken m) w (λ u. s.string_sized ts u (size_of n) c m)) }
 {
-    let size = wire::size_of(n);
-    match size {
+    match wire::size_of(n) {
         Size::Old(i) => {
-            let a = decide::old_text(strings, c, i);
-            let Text::Have(p, c1) = a else {
-                return Next::Refused(decide::no_text(a));
-            };
-            resume::had(rows, store, traits, names, frames, c1, depth, w, p)
+            let p = f.old_text(i)?;
+            f.had(w, p)
         }
-        Size::New(k) => {
-            if k == 0 {
-                return resume::had(
-                    rows,
-                    store,
-                    traits,
-                    names,
-                    frames,
-                    c,
-                    depth,
-                    w,
-                    resume::no_span(),
-                );
-            }
-            string_new(rows, store, c, depth, w, k)
-        }
+        Size::New(0) => f.had(w, Span::default()),
+        Size::New(k) => string_new(f, w, k),
     }
 }
 
-// Room for a body of `n` bytes in a store of `len`.
-fn roomy(rows: &mut [usize], c: Cursor, len: usize, row: usize, n: usize) -> Text
-    ensures { (B T O U N : List ℕ) (f : Span → Cursor → Memory → s.State) → length B ≡ len → on_text result (memory rows.new B T O U N) f
-        ≡ s.roomy row n c (memory rows.old B T O U N) f }
+// ---- bodies
+
+// Room for a body of `n` bytes.
+fn roomy(f: &mut Feeding, row: usize, n: usize) -> Result<Span, Refusal>
+    ensures { Rooms result f.old f.new row n }
 {
     if n == 0 {
-        return Text::Have(resume::no_span(), c);
+        return Ok(Span::default());
     }
-    let a = decide::reserved(len, c, n);
-    let Text::Have(p, c1) = a else {
-        return a;
-    };
-    let b = decide::bodied(rows, c1, row, p);
-    let Done::Fine(c2) = b else {
-        return Text::No(decide::not_done(b));
-    };
-    Text::Have(p, c2)
+    let p = f.reserved(n)?;
+    f.bodied(row, p)?;
+    Ok(p)
 }
 
 // An XML's text of `n` bytes is next.
-fn texting(
-    rows: &mut [usize],
-    names: &[usize],
-    frames: &mut Frames,
-    c: Cursor,
-    depth: usize,
-    row: usize,
-    p: Span,
-    n: usize,
-) -> Next
-    requires { depth < open_most }
-    ensures { (B T O U : List ℕ) → Steps result frames depth rows (kept B) (kept T) (kept O) (kept U) (kept names.now) (λ ts m. s.texting ts row p n c m) }
+fn texting(f: &mut Feeding, row: usize, p: Span, n: usize) -> Result<Next, Refusal>
+    requires { f.old.depth < open_most }
+    ensures { Steps result f.old f.new (λ ts. s.texting ts row p n) }
 {
     if n == 0 {
-        return resume::close(rows, names, frames, c, depth, row);
+        return f.close(row);
     }
-    Next::Wait(
-        resume::row_work(modes::TEXT, purposes::XML, row, n - 1, 0, p),
-        c,
-        depth,
-    )
+    Ok(Next::Wait(Work {
+        mode: modes::TEXT,
+        purpose: purposes::XML,
+        row,
+        left: n - 1,
+        span: p,
+        ..Work::default()
+    }))
 }
 
 // A raw body of `n` bytes is next.
 pub fn filling(
-    rows: &mut [usize],
-    names: &[usize],
-    frames: &mut Frames,
-    c: Cursor,
-    depth: usize,
+    f: &mut Feeding,
     purpose: usize,
     row: usize,
     p: Span,
     n: usize,
-) -> Next
-    requires { (depth < open_most) × IsRaw purpose }
-    ensures { (B T O U : List ℕ) → Steps result frames depth rows (kept B) (kept T) (kept O) (kept U) (kept names.now)
-        (λ ts m. with_raw (s.broken m) purpose row (λ r. s.filling ts r p n c m)) }
+) -> Result<Next, Refusal>
+    requires open { f.old.depth < open_most }
+    requires bytes { IsRaw purpose }
+    ensures { Steps result f.old f.new (λ ts c m. with_raw (s.broken m) purpose row (λ r. s.filling ts r p n c m)) }
 {
     if n == 0 {
-        return resume::close(rows, names, frames, c, depth, row);
+        return f.close(row);
     }
-    Next::Wait(
-        resume::row_work(modes::RAW, purpose, row, n - 1, 0, p),
-        c,
-        depth,
-    )
-}
-
-fn open_xml(
-    rows: &mut [usize],
-    store: &[u8],
-    names: &[usize],
-    frames: &mut Frames,
-    c: Cursor,
-    depth: usize,
-    row: usize,
-    n: usize,
-) -> Next
-    requires { depth < open_most }
-    ensures { (T O U : List ℕ) → Steps result frames depth rows (kept store.now) (kept T) (kept O) (kept U) (kept names.now) (λ ts m. s.opened ts row d.xml n c m) }
-{
-    let a = roomy(rows, c, store.len(), row, n);
-    let Text::Have(p, c1) = a else {
-        return Next::Refused(decide::no_text(a));
-    };
-    texting(rows, names, frames, c1, depth, row, p, n)
-}
-
-fn open_bytes(
-    rows: &mut [usize],
-    store: &[u8],
-    names: &[usize],
-    frames: &mut Frames,
-    c: Cursor,
-    depth: usize,
-    row: usize,
-    n: usize,
-) -> Next
-    requires { depth < open_most }
-    ensures { (T O U : List ℕ) → Steps result frames depth rows (kept store.now) (kept T) (kept O) (kept U) (kept names.now) (λ ts m. s.opened ts row d.bytes n c m) }
-{
-    let a = roomy(rows, c, store.len(), row, n);
-    let Text::Have(p, c1) = a else {
-        return Next::Refused(decide::no_text(a));
-    };
-    filling(
-        rows,
-        names,
-        frames,
-        c1,
-        depth,
-        purposes::BYTE_ARRAY,
+    Ok(Next::Wait(Work {
+        mode: modes::RAW,
+        purpose,
         row,
-        p,
-        n,
-    )
+        left: n - 1,
+        span: p,
+        ..Work::default()
+    }))
 }
 
+// A raw vector's purpose.
 fn raw_purpose(width: Width) -> usize
     ensures { result ≡ body_purpose (d.raw (width_in width)) }
 {
@@ -323,219 +183,129 @@ fn raw_purpose(width: Width) -> usize
 fn flag_work(purpose: usize, row: usize, n: usize) -> Work
     ensures { result ≡ work mode_flag purpose row 0 0 no_span no_trait n 0 }
 {
-    resume::whole_work(
-        modes::FLAG,
+    Work {
+        mode: modes::FLAG,
         purpose,
         row,
-        0,
-        0,
-        resume::no_span(),
-        resume::no_trait(),
-        n,
-        0,
-    )
+        count: n,
+        ..Work::default()
+    }
 }
 
 // The room of a raw vector is judged before its flag.
-fn open_raw(
-    rows: &mut [usize],
-    store: &[u8],
-    c: Cursor,
-    depth: usize,
-    row: usize,
-    width: Width,
-    n: usize,
-) -> Next
+fn open_raw(f: &mut Feeding, row: usize, width: Width, n: usize) -> Result<Next, Refusal>
     requires { n < 2 ^ 30 }
-    ensures { (F T O U N : List ℕ)
-        → Steps result (kept F) depth rows (kept store.now) (kept T) (kept O) (kept U) (kept N) (λ ts m. s.opened ts row (d.raw (width_in width)) n c m) }
+    ensures { Steps result f.old f.new (λ ts. s.opened ts row (d.raw (width_in width)) n) }
 {
-    let a = roomy(rows, c, store.len(), row, n * decide::width_of(width));
-    let Text::Have(p, c1) = a else {
-        return Next::Refused(decide::no_text(a));
-    };
-    Next::Wait(
-        resume::row_work(modes::FLAG, raw_purpose(width), row, 0, 0, p),
-        c1,
-        depth,
-    )
+    let p = roomy(f, row, n * decide::width_of(width))?;
+    Ok(Next::Wait(Work {
+        mode: modes::FLAG,
+        purpose: raw_purpose(width),
+        row,
+        span: p,
+        ..Work::default()
+    }))
 }
 
 // A new value, its size word read.
-fn open_body(
-    rows: &mut [usize],
-    store: &[u8],
-    names: &[usize],
-    frames: &mut Frames,
-    c: Cursor,
-    depth: usize,
-    row: usize,
-    body: Body,
-    n: usize,
-) -> Next
-    requires { (depth < open_most) × (n < 2 ^ 30) }
-    ensures { (T O U : List ℕ) → Steps result frames depth rows (kept store.now) (kept T) (kept O) (kept U) (kept names.now) (λ ts m. s.opened ts row (body_in body) n c m) }
+fn open_body(f: &mut Feeding, row: usize, body: Body, n: usize) -> Result<Next, Refusal>
+    requires open { f.old.depth < open_most }
+    requires small { n < 2 ^ 30 }
+    ensures { Steps result f.old f.new (λ ts. s.opened ts row (body_in body) n) }
 {
     match body {
-        Body::Xml => open_xml(rows, store, names, frames, c, depth, row, n),
-        Body::Date => Next::Wait(
-            resume::row_work(
-                modes::NUMBER,
-                purposes::DATE_BITS,
-                row,
-                7,
-                0,
-                resume::no_span(),
-            ),
-            c,
-            depth,
-        ),
-        Body::Array => resume::next_key(c, depth, row, n, 0),
-        Body::Bytes => open_bytes(rows, store, names, frames, c, depth, row, n),
-        Body::Objects => Next::Wait(flag_work(purposes::OBJECT_VECTOR, row, n), c, depth),
-        Body::Dictionary => Next::Wait(flag_work(purposes::DICTIONARY, row, n), c, depth),
-        Body::RawFour => open_raw(rows, store, c, depth, row, Width::Four, n),
-        Body::RawEight => open_raw(rows, store, c, depth, row, Width::Eight, n),
+        Body::Xml => {
+            let p = roomy(f, row, n)?;
+            texting(f, row, p, n)
+        }
+        Body::Date => Ok(Next::Wait(Work {
+            mode: modes::NUMBER,
+            purpose: purposes::DATE_BITS,
+            row,
+            left: resume::NUMBER_MORE,
+            ..Work::default()
+        })),
+        Body::Array => Ok(Next::Wait(Work {
+            count: n,
+            ..resume::string_work(purposes::KEY, row)
+        })),
+        Body::Bytes => {
+            let p = roomy(f, row, n)?;
+            filling(f, purposes::BYTE_ARRAY, row, p, n)
+        }
+        Body::Objects => Ok(Next::Wait(flag_work(purposes::OBJECT_VECTOR, row, n))),
+        Body::Dictionary => Ok(Next::Wait(flag_work(purposes::DICTIONARY, row, n))),
+        Body::RawFour => open_raw(f, row, Width::Four, n),
+        Body::RawEight => open_raw(f, row, Width::Eight, n),
     }
 }
 
 // A reference to object `i`.
-fn refer(
-    rows: &mut [usize],
-    objects: &[usize],
-    names: &[usize],
-    frames: &mut Frames,
-    c: Cursor,
-    depth: usize,
-    row: usize,
-    i: usize,
-) -> Next
-    requires { depth < open_most }
-    ensures { (B T U : List ℕ) → Steps result frames depth rows (kept B) (kept T) (kept objects.now) (kept U) (kept names.now)
-        (λ ts m. s.ends ts (λ m. d.on_rows (d.referred row i m.objects) m) c m) }
+fn refer(f: &mut Feeding, row: usize, i: usize) -> Result<Next, Refusal>
+    requires { f.old.depth < open_most }
+    ensures { Steps result f.old f.new (λ ts. s.ends ts (λ m. d.on_rows (d.referred row i m.objects) m)) }
 {
-    let a = decide::referred(rows, objects, c, row, i);
-    let Done::Fine(c1) = a else {
-        return Next::Refused(decide::not_done(a));
-    };
-    resume::pop(rows, names, frames, c1, depth)
+    f.referred(row, i)?;
+    f.pop()
 }
 
 // A size word is whole.
-fn body_sized(
-    rows: &mut [usize],
-    store: &[u8],
-    objects: &mut [usize],
-    names: &[usize],
-    frames: &mut Frames,
-    c: Cursor,
-    depth: usize,
-    row: usize,
-    body: Body,
-    w: usize,
-) -> Next
-    requires { (depth < open_most) × (w < 2 ^ 30) }
-    ensures { (T U : List ℕ) → Steps result frames depth rows (kept store.now) (kept T) objects (kept U) (kept names.now) (λ ts m. s.body_sized ts row (body_in body) (size_of w) c m) }
+fn body_sized(f: &mut Feeding, row: usize, body: Body, w: usize) -> Result<Next, Refusal>
+    requires open { f.old.depth < open_most }
+    requires small { w < 2 ^ 30 }
+    ensures { Steps result f.old f.new (λ ts. s.body_sized ts row (body_in body) (size_of w)) }
 {
-    let size = wire::size_of(w);
-    match size {
-        Size::Old(i) => refer(rows, objects, names, frames, c, depth, row, i),
+    match wire::size_of(w) {
+        Size::Old(i) => refer(f, row, i),
         Size::New(n) => {
-            let a = decide::entered(objects, c, row);
-            let Done::Fine(c1) = a else {
-                return Next::Refused(decide::not_done(a));
-            };
-            open_body(rows, store, names, frames, c1, depth, row, body, n)
+            f.entered(row)?;
+            open_body(f, row, body, n)
         }
     }
 }
 
+// ---- objects
+
 // An object of a trait that was read before.
-fn object_known(
-    rows: &mut [usize],
-    traits: &[usize],
-    names: &[usize],
-    frames: &mut Frames,
-    c: Cursor,
-    depth: usize,
-    row: usize,
-    i: usize,
-) -> Next
-    requires { depth < open_most }
-    ensures { (B T O : List ℕ) → Steps result frames depth rows (kept B) (kept T) (kept O) (kept traits.now) (kept names.now)
-        (λ ts m. s.on (d.looking (λ m. d.old_trait i m.traits) m c) m (λ t c m. s.on (d.on_rows (d.object_class row t) m c) m (λ y. s.members ts row t))) }
+fn object_known(f: &mut Feeding, row: usize, i: usize) -> Result<Next, Refusal>
+    requires { f.old.depth < open_most }
+    ensures { Steps result f.old f.new
+        (λ ts c m. s.on (d.looking (λ m. d.old_trait i m.traits) m c) m (λ t c m. s.on (d.on_rows (d.object_class row t) m c) m (λ y. s.members ts row t))) }
 {
-    let a = decide::old_trait(traits, c, i);
-    let Traited::Known(t, c1) = a else {
-        return Next::Refused(decide::no_trait(a));
-    };
-    let b = decide::object_class(rows, c1, row, t);
-    let Done::Fine(c2) = b else {
-        return Next::Refused(decide::not_done(b));
-    };
-    resume::members_of(rows, names, frames, c2, depth, row, t)
+    let t = f.old_trait(i)?;
+    f.object_class(row, t)?;
+    f.members_of(row, t)
 }
 
 // An object's word is whole.
-fn object_shaped(
-    rows: &mut [usize],
-    objects: &mut [usize],
-    traits: &[usize],
-    names: &[usize],
-    frames: &mut Frames,
-    c: Cursor,
-    depth: usize,
-    row: usize,
-    w: usize,
-) -> Next
-    requires { depth < open_most }
-    ensures { (B T : List ℕ) → Steps result frames depth rows (kept B) (kept T) objects (kept traits.now) (kept names.now) (λ ts m. s.object_shaped ts row (shape_of w) c m) }
+fn object_shaped(f: &mut Feeding, row: usize, w: usize) -> Result<Next, Refusal>
+    requires { f.old.depth < open_most }
+    ensures { Steps result f.old f.new (λ ts. s.object_shaped ts row (shape_of w)) }
 {
-    let shape = wire::shape_of(w);
-    if let Shape::Object(i) = shape {
-        return refer(rows, objects, names, frames, c, depth, row, i);
-    }
-    let a = decide::entered(objects, c, row);
-    let Done::Fine(c1) = a else {
-        return Next::Refused(decide::not_done(a));
-    };
-    match shape {
-        Shape::Object(i) => Next::Refused(decide::lost()),
-        Shape::Known(i) => object_known(rows, traits, names, frames, c1, depth, row, i),
-        Shape::External => Next::Wait(
-            resume::string_work(purposes::EXTERNAL, 0, resume::no_trait(), 0, 0),
-            c1,
-            depth,
-        ),
-        Shape::Inline(n, dynamic) => Next::Wait(
-            resume::string_work(purposes::CLASS, row, resume::dynamic_trait(dynamic), n, 0),
-            c1,
-            depth,
-        ),
+    match wire::shape_of(w) {
+        Shape::Object(i) => refer(f, row, i),
+        Shape::Known(i) => {
+            f.entered(row)?;
+            object_known(f, row, i)
+        }
+        Shape::External => {
+            f.entered(row)?;
+            Ok(Next::Wait(resume::string_work(purposes::EXTERNAL, 0)))
+        }
+        Shape::Inline(n, dynamic) => {
+            f.entered(row)?;
+            Ok(Next::Wait(Work {
+                kind: of_dynamic(dynamic),
+                count: n,
+                ..resume::string_work(purposes::CLASS, row)
+            }))
+        }
     }
 }
 
-fn integer_done(
-    rows: &mut [usize],
-    names: &[usize],
-    frames: &mut Frames,
-    c: Cursor,
-    depth: usize,
-    row: usize,
-    w: usize,
-) -> Next
-    requires { depth < open_most }
-    ensures { (B T O U : List ℕ) → Steps result frames depth rows (kept B) (kept T) (kept O) (kept U) (kept names.now)
-        (λ ts m. s.ends ts (d.on_rows (d.integer_end row w)) c m) }
-{
-    let a = decide::integer_end(rows, c, row, w);
-    let Done::Fine(c1) = a else {
-        return Next::Refused(decide::not_done(a));
-    };
-    resume::pop(rows, names, frames, c1, depth)
-}
+// ---- words
 
-// What a size word is of, by its purpose.
+// What a size word is of, by its purpose. Not From: neither type is of this crate.
 fn body_for(purpose: usize) -> Body
     ensures { body_in result ≡ with_body d.xml purpose (λ b. b) }
 {
@@ -552,41 +322,21 @@ fn body_for(purpose: usize) -> Body
 }
 
 // A word is whole.
-pub fn worded(
-    rows: &mut [usize],
-    store: &[u8],
-    strings: &[usize],
-    objects: &mut [usize],
-    traits: &mut [usize],
-    names: &mut [usize],
-    frames: &mut Frames,
-    c: Cursor,
-    depth: usize,
-    w: Work,
-    n: usize,
-) -> Next
-    requires { (depth < open_most) × (IsWord w) × (n < 2 ^ 30) }
-    ensures { Steps result frames depth rows (kept store.now) (kept strings.now) objects traits names (λ ts m. with_word (s.broken m) w (λ x. s.worded ts x n c m)) }
+pub fn worded(f: &mut Feeding, w: Work, n: usize) -> Result<Next, Refusal>
+    requires open { f.old.depth < open_most }
+    requires word { IsWord w }
+    requires small { n < 2 ^ 30 }
+    ensures { Steps result f.old f.new (λ ts c m. with_word (s.broken m) w (λ x. s.worded ts x n c m)) }
 {
     if w.purpose == purposes::INTEGER {
-        return integer_done(rows, names, frames, c, depth, w.row, n);
+        f.integer_end(w.row, n)?;
+        return f.pop();
     }
     if w.purpose == purposes::OBJECT {
-        return object_shaped(rows, objects, traits, names, frames, c, depth, w.row, n);
+        return object_shaped(f, w.row, n);
     }
     if w.purpose <= purposes::DICTIONARY {
-        return body_sized(
-            rows,
-            store,
-            objects,
-            names,
-            frames,
-            c,
-            depth,
-            w.row,
-            body_for(w.purpose),
-            n,
-        );
+        return body_sized(f, w.row, body_for(w.purpose), n);
     }
-    string_sized(rows, store, strings, traits, names, frames, c, depth, w, n)
+    string_sized(f, w, n)
 }

@@ -9,13 +9,13 @@ use lib.Dec.{ltb}
 use lib.ListN.{get_or}
 use lib.Signed.{mag}
 use Rattle.rows.specs.Memory.{row_width, memory, col_kind, col_number, col_count, col_count2, col_end, rows_in, col}
-use Rattle.rows.specs.Kinds.{kind_integer, kind_array, kind_object, kind_object_vector, kind_dictionary}
+use Rattle.rows.specs.Kinds.{kind_integer, kind_object_vector, kind_dictionary}
 use Rattle.wire.specs.Sign.{of_column}
 use Rattle.format.specs.RowTest.{has_count2, children, number_writable}
 use Rattle.format.proofs.Tested.{Row, tested-rows, walk-long}
 use Rattle.format.proofs.Loans.{lent}
 use Rattle.format.proofs.Unfolded.{column-small}
-use Rattle.writer.specs.Pieces.{Fit, Of, Plainly}
+use Rattle.writer.specs.Pieces.{Fit, Of}
 use Rattle.rows.specs.Memory.{rows_most}
 
 -- a row with a kind is there
@@ -40,22 +40,6 @@ module _ {R B : List ℕ} (fit : Fit R B) (j : ℕ) where
   module _ {k : ℕ} (e : k ≡ col R j col_kind) where
     kinded : {c : ℕ} → k ≡ c → col R j col_kind ≡ c
     kinded h = sym e ∙ h
-
-    pub of-kind : {c : ℕ} → k ≡ c → Of c R B j
-    of-kind h = record { fit = fit; is = kinded h }
-
-    back : {c : ℕ} → col R j col_kind ≡ c → k ≡ c
-    back h = e ∙ h
-
-    pub plainly : Others (kind_dictionary ∷ kind_object_vector ∷ kind_object ∷ kind_array ∷ []) k → Plainly R B j
-    plainly o =
-        record {
-          fit = fit;
-          no-array = λ h. o.0.0.0.1 (back h);
-          no-object = λ h. o.0.0.1 (back h);
-          no-vector = λ h. o.0.1 (back h);
-          no-dictionary = λ h. o.1 (back h);
-        }
 
   -- the number of a row of this kind
   module _ {k n : ℕ} (e : k ≡ col R j col_kind) (g : n ≡ col R j col_number) where

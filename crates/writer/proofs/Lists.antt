@@ -1,21 +1,22 @@
--- Rows one after the other: their bytes, and the loops that put them, by how many are left.
-use mathlib.Core.Path.{◌≡◌, refl, ◌∙◌}
-use mathlib.Core.Bool.{Bool, cond}
-use mathlib.Core.List.{List, [], ◌∷◌, ◌++◌}
+-- Rows one after the other: their bytes, and what is left of a loop that writes them.
+use mathlib.Core.Path.{◌≡◌, refl}
+use mathlib.Core.Bool.{Bool, true, false, cond}
+use mathlib.Core.List.{List, [], ◌∷◌}
 use Prim.Native.Nat.{ℕ, zero, suc, ◌+◌, ◌*◌, ◌-◌, ◌<◌, ◌≤◌}
 use native.Mathlib.Omega.{arith}
 use borrow.Author.Tests.{ne_eqb}
 use lib.Dec.{eqb}
 use Rattle.rows.specs.Memory.{col_end, col}
 use Rattle.format.specs.Standard.{Tree, text_bytes, name_bytes, trait_word}
-use Rattle.format.specs.Unfold.{key_text, trees_at, pairs_at, entries_at, tree_at}
-use Rattle.format.specs.Writing.{Stream, done, ◌then◌, these, emit_trees, emit_pairs, emit_values, emit_dynamic, emit_entries, emit}
+use Rattle.format.specs.Unfold.{key_text, trees_at, pairs_at, entries_at}
+use Rattle.format.specs.Writing.{Stream, done, ◌then◌, these, emit_trees, emit_pairs, emit_values, emit_dynamic, emit_entries}
 use Rattle.format.proofs.Unfolded.{pairs-count}
-use Rattle.writer.specs.declared.Put.{Put}
-use Rattle.writer.specs.declared.Put.TheVariants.{At, Stop}
-use Rattle.writer.specs.Run.{Ran, ran, run}
-use Rattle.writer.specs.Pieces.{value_at, items_at, pairings_at, names_at}
-use Rattle.writer.proofs.Streams.{then-stop, then-go, join-stop, join-go}
+use Rattle.std.specs.Prelude.{Ok, Err}
+use Rattle.writer.specs.declared.Stop.{Stop}
+use Rattle.writer.specs.declared.Writer.{Writer}
+use Rattle.writer.specs.Run.{Writes}
+use Rattle.writer.specs.Pieces.{value_at, items_at, pairings_at, members_at, names_at}
+use Rattle.writer.proofs.Streams.{Text, these-append, nothing, Rest, rest_end, rest_stop, rest_more}
 
 -- ---- values in one order, whatever they are members of
 
@@ -43,15 +44,9 @@ module _ (F : Tree → Stream) (f : ℕ → Tree) (R : List ℕ) where
     dynamic-some zero h = absurd (h refl)
     dynamic-some (suc m) h = refl
 
-module _ (l : ℕ) (R B : List ℕ) (m : ℕ) where
-  pub dynamic-end : (k : ℕ) (dry : Bool) (at : ℕ) (O : List ℕ) → m ≡ 0
-      → ran (At at) O ≡ run dry (emit_dynamic (emit l) (pairs_at (tree_at l R B) R B k m)) at O
-  unfolding run
-  dynamic-end k dry at O h = rw (dynamic-none (emit l) (tree_at l R B) R B k m h)
-
-  pub dynamic-is : {k k' : ℕ} → k ≡ k' → (m ≡ 0 → ⊥)
-      → pairings_at l R B k m then these (0x01 ∷ []) ≡ emit_dynamic (emit l) (pairs_at (tree_at l R B) R B k' m)
-  dynamic-is {k' = k'} e h = rw (e, dynamic-some (emit l) (tree_at l R B) R B k' m h)
+-- the key of a row in a loop, where it has one
+abbrev pub member_key : Bool → ℕ → List ℕ → List ℕ → Stream
+member_key keyed k R B = cond keyed (these (text_bytes (key_text R B k))) done
 
 -- ---- names don't look at values
 
@@ -66,63 +61,101 @@ unfolding trait_word pairs_at
 word-is f R B k n l zero = rw (pairs-count f R B k n)
 word-is f R B k n l (suc m) = rw (pairs-count f R B k n, ne_eqb (suc m) 0 (λ z. omega arith))
 
+-- ---- what is left of a loop after i of n rows
+
+none_left : (i n : ℕ) → n ≤ i → n - i ≡ 0
+none_left i n h = omega arith
+
+some_left : (i n : ℕ) → i < n → n - i ≡ suc (n - (i + 1))
+some_left i n h = omega arith
+
+module _ (l : ℕ) (R B : List ℕ) (k i n : ℕ) where
+  items_none : n ≤ i → items_at l R B k (n - i) ≡ done
+  unfolding emit_trees trees_at
+  items_none h = rw (none_left i n h)
+
+  items_some : i < n → items_at l R B k (n - i) ≡ value_at l R B k then items_at l R B (col R k col_end) (n - (i + 1))
+  unfolding emit_trees trees_at
+  items_some h = rw (some_left i n h)
+
+  pairs_none : n ≤ i → pairings_at l R B k (n - i) ≡ done
+  unfolding emit_pairs pairs_at
+  pairs_none h = rw (none_left i n h)
+
+  pairs_some : i < n → pairings_at l R B k (n - i) ≡ these (text_bytes (key_text R B k)) then value_at l R B k then pairings_at l R B (col R k col_end) (n - (i + 1))
+  unfolding emit_pairs pairs_at
+  pairs_some h = rw (some_left i n h)
+
+  pub members_none : (keyed : Bool) → n ≤ i → members_at l keyed k (n - i) R B ≡ done
+  members_none true h = pairs_none h
+  members_none false h = items_none h
+
+  pub members_some : (keyed : Bool) {e : ℕ} → i < n → e ≡ col R k col_end
+      → members_at l keyed k (n - i) R B ≡ member_key keyed k R B then value_at l R B k then members_at l keyed e (n - (i + 1)) R B
+  unfolding ◌then◌
+  members_some true h e = rw e (pairs_some h)
+  members_some false h e = rw e (items_some h)
+
+module _ (f : ℕ → Tree) (R B : List ℕ) (k i n : ℕ) where
+  pub names_none : n ≤ i → these (names_at f R B k (n - i)) ≡ done
+  unfolding these name_bytes pairs_at
+  names_none h = rw (none_left i n h)
+
+  pub names_some : {e : ℕ} → i < n → e ≡ col R k col_end
+      → these (names_at f R B k (n - i)) ≡ these (text_bytes (key_text R B k)) then these (names_at f R B e (n - (i + 1)))
+  unfolding name_bytes pairs_at
+  names_some h e = rw (some_left i n h, e) (these-append (text_bytes (key_text R B k)) (names_at f R B (col R k col_end) (n - (i + 1))))
+
 -- ---- the loops
 
-some_left : (m : ℕ) → 0 < m → m ≡ suc (m - 1)
-some_left m h = omega arith
+-- the key of a row in a loop is written, where it has one
+module _ {m n : Writer} {keyed : Bool} (row : ℕ) where
+  pub with_key : {u : Unit {0}} {k : Writer} → keyed ≡ true → n ≡ k → Writes (Ok u) m k (λ R B. these (text_bytes (key_text R B row)))
+      → Writes (Ok u) m n (member_key keyed row)
+  with_key t e w = rw (t, e) w
 
-none_left : (m : ℕ) → m ≤ 0 → m ≡ 0
-none_left m h = omega arith
+  pub without_key : keyed ≡ false → n ≡ m → Writes (Ok tt) m n (member_key keyed row)
+  without_key t e = rw (t, e) (nothing m refl)
 
-module _ (l : ℕ) (dry : Bool) (R B : List ℕ) (k m p : ℕ) (O : List ℕ) {x : Ran} where
-  module _ (I : run dry (items_at l R B k m) p O ≡ x) where
-    pub items-end : m ≤ 0 → ran (At p) O ≡ x
-    unfolding run emit_trees trees_at
-    items-end h = rw (none_left m h) at I
+module _ (l : ℕ) (keyed : Bool) {o m : Writer} (row i n : ℕ) {y : Text} (w : Rest o m (members_at l keyed row (n - i)) y) where
+  pub members-end : n ≤ i → Writes (Ok tt) o m y
+  members-end h = rest_end w (members_none l o.table.rows.now o.table.store.now row i n keyed h)
 
-    first-item : 0 < m → run dry (value_at l R B k then items_at l R B (col R k col_end) (m - 1)) p O ≡ x
-    unfolding emit_trees trees_at
-    first-item h = rw (some_left m h) at I
+  module _ (h : i < n) where
+    pub key_stops : {k : Writer} {s : Stop} → keyed ≡ true → Writes (Err s) m k (λ R B. these (text_bytes (key_text R B row))) → Writes (Err s) o k y
+    key_stops {k} {s} t v =
+        let v' : Writes (Err s) m k (member_key keyed row) = rw t v in
+        rest_stop w (member_key keyed row) (λ R B. value_at l R B row then members_at l keyed (col o.table.rows.now row col_end) (n - (i + 1)) R B)
+        (members_some l o.table.rows.now o.table.store.now row i n keyed h refl) v'
 
-    pub items-stop : {P : List ℕ} {a : Put} {n q : ℕ} → 0 < m → ran a P ≡ run dry (value_at l R B k) p O → a ≡ Stop n q → ran a P ≡ x
-    items-stop h e g = then-stop _ _ dry _ _ e g ∙ first-item h
+    module _ {k : Writer} (v : Writes (Ok tt) m k (member_key keyed row)) where
+      at_value : Rest o k (λ R B. value_at l R B row then members_at l keyed (col o.table.rows.now row col_end) (n - (i + 1)) R B) y
+      at_value = rest_more w (member_key keyed row) _ (members_some l o.table.rows.now o.table.store.now row i n keyed h refl) v
 
-    pub items_more : {P : List ℕ} {a : Put} {q c : ℕ} → 0 < m → ran a P ≡ run dry (value_at l R B k) p O → a ≡ At q → c ≡ col R k col_end
-        → run dry (items_at l R B c (m - 1)) q P ≡ x
-    items_more h e g c = rw c (then-go _ _ dry _ _ e g refl ∙ first-item h)
+      pub value_stops : {u : Writer} {s : Stop} → Writes (Err s) k u (λ R B. value_at l R B row) → Writes (Err s) o u y
+      value_stops x = rest_stop at_value (λ R B. value_at l R B row) (members_at l keyed (col o.table.rows.now row col_end) (n - (i + 1))) refl x
 
-  module _ (I : run dry (pairings_at l R B k m) p O ≡ x) where
-    pub pairs_end : m ≤ 0 → ran (At p) O ≡ x
-    unfolding run emit_pairs pairs_at
-    pairs_end h = rw (none_left m h) at I
+      pub members_more : {u : Writer} {a : Unit {0}} {e : ℕ} → Writes (Ok a) k u (λ R B. value_at l R B row) → e ≡ col u.table.rows.now row col_end
+          → Rest o u (members_at l keyed e (n - (i + 1))) y
+      members_more {u} {a} {e} x q =
+          let t = rest_more at_value (λ R B. value_at l R B row) (members_at l keyed (col o.table.rows.now row col_end) (n - (i + 1))) refl x in
+          let z : e ≡ col o.table.rows.now row col_end = rw t.same.table at q in
+          rw z t
 
-    first-pair : 0 < m → run dry (these (text_bytes (key_text R B k)) then value_at l R B k then pairings_at l R B (col R k col_end) (m - 1)) p O ≡ x
-    unfolding emit_pairs pairs_at
-    first-pair h = rw (some_left m h) at I
+module _ (f : ℕ → Tree) {o m : Writer} (row i n : ℕ) {y : Text} (w : Rest o m (λ R B. these (names_at f R B row (n - i))) y) where
+  pub names-end : n ≤ i → Writes (Ok tt) o m y
+  names-end h = rest_end w (names_none f o.table.rows.now o.table.store.now row i n h)
 
-    module _ (h : 0 < m) {P : List ℕ} {b : Put} (e : ran b P ≡ run dry (these (text_bytes (key_text R B k))) p O) where
-      pub pairs-key : {n q : ℕ} → b ≡ Stop n q → ran b P ≡ x
-      pairs-key g = then-stop _ _ dry _ _ e g ∙ first-pair h
+  module _ (h : i < n) {k : Writer} where
+    pub name_stops : {s : Stop} → Writes (Err s) m k (λ R B. these (text_bytes (key_text R B row))) → Writes (Err s) o k y
+    name_stops v =
+        rest_stop w (λ R B. these (text_bytes (key_text R B row))) (λ R B. these (names_at f R B (col o.table.rows.now row col_end) (n - (i + 1))))
+        (names_some f o.table.rows.now o.table.store.now row i n h refl) v
 
-      module _ {s : ℕ} (f : b ≡ At s) {Q : List ℕ} {a : Put} (v : ran a Q ≡ run dry (value_at l R B k) s P) where
-        pub pairs-stop : {n q : ℕ} → a ≡ Stop n q → ran a Q ≡ x
-        pairs-stop g = then-go _ _ dry _ _ e f (then-stop _ _ dry _ _ v g) ∙ first-pair h
-
-        pub pairs-more : {q c : ℕ} → a ≡ At q → c ≡ col R k col_end → run dry (pairings_at l R B c (m - 1)) q Q ≡ x
-        pairs-more g c = rw c (then-go _ _ dry _ _ e f (then-go _ _ dry _ _ v g refl) ∙ first-pair h)
-
-module _ (f : ℕ → Tree) (dry : Bool) (R B : List ℕ) (k m p : ℕ) (O : List ℕ) {x : Ran} (I : run dry (these (names_at f R B k m)) p O ≡ x) where
-  pub names-end : m ≤ 0 → ran (At p) O ≡ x
-  unfolding run these name_bytes pairs_at
-  names-end h = rw (none_left m h) at I
-
-  first-name : 0 < m → run dry (these (text_bytes (key_text R B k) ++ names_at f R B (col R k col_end) (m - 1))) p O ≡ x
-  unfolding name_bytes pairs_at
-  first-name h = rw (some_left m h) at I
-
-  pub names-stop : {P : List ℕ} {a : Put} {n q : ℕ} → 0 < m → ran a P ≡ run dry (these (text_bytes (key_text R B k))) p O → a ≡ Stop n q → ran a P ≡ x
-  names-stop h e g = join-stop _ _ dry _ _ e g ∙ first-name h
-
-  pub names_more : {P : List ℕ} {a : Put} {q c : ℕ} → 0 < m → ran a P ≡ run dry (these (text_bytes (key_text R B k))) p O → a ≡ At q
-      → c ≡ col R k col_end → run dry (these (names_at f R B c (m - 1))) q P ≡ x
-  names_more h e g c = rw c (join-go _ _ dry _ _ e g refl ∙ first-name h)
+    pub names_more : {a : Unit {0}} {e : ℕ} → Writes (Ok a) m k (λ R B. these (text_bytes (key_text R B row))) → e ≡ col k.table.rows.now row col_end
+        → Rest o k (λ R B. these (names_at f R B e (n - (i + 1)))) y
+    names_more {a} {e} v q =
+        let t = rest_more w (λ R B. these (text_bytes (key_text R B row))) (λ R B. these (names_at f R B (col o.table.rows.now row col_end) (n - (i + 1))))
+        (names_some f o.table.rows.now o.table.store.now row i n h refl) v in
+        let z : e ≡ col o.table.rows.now row col_end = rw t.same.table at q in
+        rw z t

@@ -1,5 +1,5 @@
 -- The bytes of a row that holds no values, by its kind.
-use mathlib.Core.Path.{◌≡◌, refl, sym, ◌∙◌}
+use mathlib.Core.Path.{◌≡◌, refl, ap, sym, ◌∙◌}
 use mathlib.Core.Bool.{not}
 use mathlib.Core.List.{List, [], ◌∷◌, ◌++◌}
 use Prim.Native.Nat.{ℕ, ◌/◌, ◌^◌, ◌<◌}
@@ -7,30 +7,37 @@ use native.Mathlib.Omega.{arith}
 use lib.Dec.{eqb}
 use lib.ListN.{length}
 use lib.Signed.{mag}
+use mir.Syntax.{w64}
+use mir.Val.{SFits, to_z, of_z}
+use mir.ValLaws.{to_z-of_z}
+use Rattle.std.specs.Prelude.{ℤ}
 use Rattle.rows.specs.Memory.{col_kind, col_flag, col_number, col}
 use Rattle.rows.specs.Kinds as kinds
-use Rattle.wire.specs.declared.Bits.{Bits}
-use Rattle.wire.specs.declared.Bits.TheVariants as bits
+use Rattle.std.specs.Prelude.{Option, Some}
+use Rattle.std.specs.Option.{IsSome}
 use Rattle.wire.specs.U29.{u29}
 use Rattle.wire.specs.Sign.{of_column, bits_of}
 use Rattle.wire.proofs.Sign as sign
 use Rattle.format.specs.Standard.{Tree, boolean, integer, double, date, text_bytes, size_bytes, flag_byte, encode_plain}
 use Rattle.format.specs.Unfold.{body_of, node}
 use Rattle.format.specs.Writing.{Stream, these, emit_in}
-use Rattle.format.proofs.Tests.{clash}
 use Rattle.format.proofs.Tested.{kind-is}
 use Rattle.writer.specs.Pieces.{Plainly}
 use Rattle.writer.proofs.Bounds.{row, Others}
 
 -- ---- numbers
 
-module _ (n : ℕ) {b : Bits} (g : b ≡ bits_of (of_column n)) (l : mag (of_column n) < 2 ^ 28) where
-  pub integer_in : b ≡ bits.Outside → ⊥
-  integer_in h = let q : bits_of (of_column n) ≡ bits.Of _ = sign.bits-of (of_column n) l in clash (cc)
+-- the bits of what was read of a column
+pub column_bits : (n : ℕ) {v : ℤ} {b : Option ℕ} → SFits w64 v → v ≡ of_column n → b ≡ bits_of (to_z w64 (of_z w64 v)) → b ≡ bits_of (of_column n)
+column_bits n {v = v} f e g = g ∙ ap bits_of (to_z-of_z w64 v f ∙ e)
 
-  pub integer-bytes : {k : ℕ} → b ≡ bits.Of k → 0x04 ∷ u29 k ≡ encode_plain (integer (of_column n))
+module _ (n : ℕ) {b : Option ℕ} (g : b ≡ bits_of (of_column n)) where
+  pub integer_in : mag (of_column n) < 2 ^ 28 → IsSome b
+  integer_in l = rw (g, sign.bits-of (of_column n) l) refl
+
+  pub integer-bytes : {k : ℕ} → b ≡ Some k → 0x04 ∷ u29 k ≡ encode_plain (integer (of_column n))
   unfolding encode_plain
-  integer-bytes {k} h = let q : bits_of (of_column n) ≡ bits.Of k = cc in rw (sign.has-bits (of_column n) k q).1
+  integer-bytes {k} h = let q : bits_of (of_column n) ≡ Some k = cc in rw (sign.has-bits (of_column n) k q).1
 
 -- ---- by the kind k
 

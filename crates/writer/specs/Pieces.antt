@@ -1,5 +1,5 @@
 -- What is written of a row, and of rows one after the other, where so many values may still open.
-use Rattle.std.specs.Prelude.{◌≡◌, List, ℕ, ◌+◌}
+use Rattle.std.specs.Prelude.{◌≡◌, Bool, cond, List, ℕ, ◌+◌}
 use Rattle.rows.specs.Memory.{rows_fault, col_kind, col_count, col_count2, col}
 use Rattle.rows.specs.Kinds.{kind_array, kind_object, kind_object_vector, kind_dictionary}
 use Rattle.format.specs.Standard.{Tree, name_bytes, object_head, vector_head}
@@ -37,6 +37,10 @@ items_at left R B k n = emit_trees (emit left) (trees_at (tree_at left R B) R k 
 
 abbrev pub pairings_at : ℕ → List ℕ → List ℕ → ℕ → ℕ → Stream
 pairings_at left R B k n = emit_pairs (emit left) (pairs_at (tree_at left R B) R B k n)
+
+-- n rows: their values, each behind its key where they have keys
+abbrev pub members_at : ℕ → Bool → ℕ → ℕ → List ℕ → List ℕ → Stream
+members_at left keyed k n R B = cond keyed (pairings_at left R B k n) (items_at left R B k n)
 
 -- ---- what stands before the values in a row: f gives the trees of these, which don't matter
 

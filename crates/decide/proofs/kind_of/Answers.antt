@@ -52,4 +52,5 @@ returns c = sym (rw (
   ne_eqb _ _ c.if-b-eq-MARKER_DOUBLE.false,
   ne_eqb _ _ c.if-b-eq-MARKER_STRING.false,
   ne_eqb _ _ c.if-b-eq-MARKER_OBJECT.false,
+  c.body_of.ensures,
 )) ∙ kind-by c.args.b

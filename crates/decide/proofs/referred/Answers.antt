@@ -2,55 +2,40 @@
 use native.Mathlib.Omega.{arith}
 use mathlib.Core.Path.{sym, ◌∙◌}
 use lib.ListN.{length, length-set}
-use borrow.Author.Tests.{eq-eqb, ne_eqb, le-leb, lt-leb, lt-ltb, le-ltb}
-use Rattle.format.specs.Decide.{referred}
+use borrow.Author.Tests.{eq-eqb, ne_eqb, lt-ltb, le-ltb}
+use Rattle.decide.specs.Outcomes.{referred_to}
 use Rattle.decide.proofs.Rows.{used-row}
 use Rattle.decide.proofs.Refusals.{stops}
 use Rattle.decide.proofs.referred.Goals as goal
 
-pub returns-then-objects-c : goal.returns-then-objects-c
-unfolding referred
-returns-then-objects-c c = rw (lt-ltb _ _ c.if-objects-c.true, stops Unit c.lost.ensures)
-
-pub returns-then-c-i : goal.returns-then-c-i
-unfolding referred
-returns-then-c-i c = rw (le-ltb _ _ c.if-objects-c.false, le-leb _ _ c.if-c-i.true, stops Unit c.refuse.ensures)
-
 pub returns-then-not-row_used : goal.returns-then-not-row_used
-unfolding referred
+unfolding referred_to
 returns-then-not-row_used c = rw (
-  le-ltb _ _ c.if-objects-c.false,
-  lt-leb _ _
-      c.if-c-i.false,
   sym c.row_used.ensures ∙ c.if-not-row_used.true,
   stops Unit
-      c.lost-then-not-row_used.ensures,
+      c.lost.ensures,
 )
 
 pub returns-then-c-end : goal.returns-then-c-end
-unfolding referred
+unfolding referred_to
 returns-then-c-end c = rw (
-  le-ltb _ _ c.if-objects-c.false,
-  lt-leb _ _ c.if-c-i.false,
   sym c.row_used.ensures ∙ c.if-not-row_used.false,
   sym
-      c.end_at-end.ensures,
+      c.column-end.ensures,
   lt-ltb _ _ c.if-c-end.true,
   stops Unit c.lost-then-c-end.ensures,
 )
 
 pub returns-then-end-eq0 : goal.returns-then-end-eq0
-unfolding referred
+unfolding referred_to
 returns-then-end-eq0 c = rw (
-  le-ltb _ _ c.if-objects-c.false,
-  lt-leb _ _ c.if-c-i.false,
   sym c.row_used.ensures ∙ c.if-not-row_used.false,
   sym
-      c.end_at-end.ensures,
+      c.column-end.ensures,
   le-ltb _ _ c.if-c-end.false,
   eq-eqb _ _ c.if-end-eq0.true,
   stops Unit
-      c.refuse-then-end-eq0.ensures,
+      c.refuse.ensures,
 )
 
 pub overflow_mul-rows : goal.overflow_mul-rows
@@ -162,13 +147,11 @@ bounds-rows-row-then-row_used-2 c = simp length-set (omega (
 ))
 
 pub returns-then-row_used : goal.returns-then-row_used
-unfolding referred
+unfolding referred_to
 returns-then-row_used c = rw (
-  le-ltb _ _ c.if-objects-c.false,
-  lt-leb _ _ c.if-c-i.false,
   sym c.row_used.ensures ∙ c.if-not-row_used.false,
   sym
-      c.end_at-end.ensures,
+      c.column-end.ensures,
   le-ltb _ _ c.if-c-end.false,
   ne_eqb _ _ c.if-end-eq0.false,
   sym
@@ -176,13 +159,11 @@ returns-then-row_used c = rw (
 )
 
 pub returns : goal.returns
-unfolding referred
+unfolding referred_to
 returns c = rw (
-  le-ltb _ _ c.if-objects-c.false,
-  lt-leb _ _ c.if-c-i.false,
   sym c.row_used.ensures ∙ c.if-not-row_used.false,
   sym
-      c.end_at-end.ensures,
+      c.column-end.ensures,
   le-ltb _ _ c.if-c-end.false,
   ne_eqb _ _ c.if-end-eq0.false,
   sym

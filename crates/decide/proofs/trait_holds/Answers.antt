@@ -1,12 +1,12 @@
--- Each part is used.
-use mathlib.Core.Path.{sym, ◌∙◌}
+-- Both tests.
+use Rattle.std.proofs.Common.{rules}
 use Rattle.format.specs.Decide.{trait_holds}
 use Rattle.decide.proofs.trait_holds.Goals as goal
 
-pub returns-then-not-fits : goal.returns-then-not-fits
+pub returns-then-fits : goal.returns-then-fits
 unfolding trait_holds
-returns-then-not-fits c = sym (rw (sym c.fits.ensures ∙ c.if-not-fits.true))
+returns-then-fits c = search rules
 
-pub returns : goal.returns
+pub returns-else-fits : goal.returns-else-fits
 unfolding trait_holds
-returns c = sym (rw (sym c.fits.ensures ∙ c.if-not-fits.false, c.fits-2.ensures))
+returns-else-fits c = search rules

@@ -1,18 +1,13 @@
 -- A wrong loan, or a marker is next.
-use mathlib.Core.Path.{◌∙◌}
-use Rattle.rows.specs.Memory.{memory}
-use Rattle.format.specs.Numbers.{lent_of}
+use mathlib.Core.Path.{sym, ◌∙◌}
+use Rattle.std.proofs.Common.{rules}
 use Rattle.feed.proofs.Calls.{begin-refuses, begin-waits}
 use Rattle.feed.proofs.begun.Goals as goal
 
-pub returns-then-loan-ne0 : goal.returns-then-loan-ne0
-unfolding lent_of
-returns-then-loan-ne0 c = c.answered.ensures _ ∙ begin-refuses (memory c.args.rows.now c.args.store.now c.args.strings.now c.args.objects.now
-    c.args.traits.now c.args.names.now) _ c.loan_fault-loan.ensures _ c.if-loan-ne0.true
-    c.head_after.ensures
+pub returns-in-Some-clause-call : goal.returns-in-Some-clause-call
+returns-in-Some-clause-call c = c.answered.ensures _ ∙ begin-refuses _ _ c.lent-lent.ensures _ _ (sym c.fault.ensures ∙ c.in-Some.is) c.head_after-refused.ensures
 
-pub returns : goal.returns
-unfolding lent_of
-returns c = c.answered-2.ensures _ ∙ begin-waits (memory c.args.rows.now c.args.store.now c.args.strings.now c.args.objects.now
-    c.args.traits.now c.args.names.now) _ c.loan_fault-loan.ensures _ _ _ _ c.if-loan-ne0.false (rw
-    c.idle-marker.ensures) c.fresh.ensures c.head_after-2.ensures c.clear.ensures
+pub returns-clause-call : goal.returns-clause-call
+returns-clause-call c =
+    c.answered-2.ensures _
+    ∙ begin-waits _ _ c.lent-lent.ensures _ _ _ _ (sym c.fault.ensures ∙ c.in_default.is) (search rules) (search rules) c.head_after-waiting.ensures c.clear.ensures.0

@@ -3,8 +3,8 @@ use Rattle.lines.proofs.Fill.{Putting}
 use Rattle.lines.proofs.bytes.Given as goal
 
 -- the bytes so far were put, and the digits from p on make the rest
-abbrev pub invariant-loop-p : goal.invariant-loop-p
-invariant-loop-p l = Putting l.line l.at l.initial.out l.out l.n l.p
+abbrev pub invariant-loop-high : goal.invariant-loop-high
+invariant-loop-high l = Putting l.line l.at l.initial.out l.out l.n l.p
 
-abbrev pub decreases-loop-p : goal.decreases-loop-p
-decreases-loop-p l = length l.line - l.p
+abbrev pub decreases-loop-high : goal.decreases-loop-high
+decreases-loop-high l = length l.line - l.p

@@ -1,17 +1,12 @@
--- Eight bytes, and the date that they say.
-use mathlib.Core.Path.{ap}
-use Rattle.format.specs.Reading.{new_of}
-use Rattle.scan.specs.Reads.{number_in}
-use Rattle.scan.proofs.Does.{does_date}
-use Rattle.scan.proofs.Then.{then, refused}
+-- What is read, and what its row shows.
+use Rattle.format.specs.Reading as r
+use Rattle.scan.proofs.Laws.{then, fails, out-err}
 use Rattle.parts.proofs.date.Goals as goal
 
-pub returns-in_default : goal.returns-in_default
-unfolding new_of
-returns-in_default c = λ value n B T O U N. refused _ _ _ _ _ _ _ _ _ (ap number_in c.in_default.is) (c.no_number.ensures _
-    c.in_default.is) (c.eight-a.ensures _)
+pub returns-in_err-bits : goal.returns-in_err-bits
+unfolding r.new_of
+returns-in_err-bits c = λ value n. out-err c.from_residual.ensures (fails _ _ c.in_err-bits.ensures)
 
 pub returns : goal.returns
-unfolding new_of
-returns c = λ value n B T O U N. then _ _ _ _ _ _ _ _ _ _ (ap number_in c.in-Whole.is) (c.eight-a.ensures _) (does_date _ _ _ _ _ _ _ _ _ _ _ _
-    c.date_end.ensures)
+unfolding r.new_of
+returns c = λ value n. then _ _ c.in_ok-bits.ensures c.date_end.ensures

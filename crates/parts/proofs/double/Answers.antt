@@ -1,17 +1,12 @@
--- Eight bytes, and the row's number.
-use mathlib.Core.Path.{ap}
-use Rattle.format.specs.Reading.{marked}
-use Rattle.scan.specs.Reads.{number_in}
-use Rattle.scan.proofs.Does.{does_numbered}
-use Rattle.scan.proofs.Then.{then, refused}
+-- What is read, and what its row shows.
+use Rattle.format.specs.Reading as r
+use Rattle.scan.proofs.Laws.{then, fails, out-err}
 use Rattle.parts.proofs.double.Goals as goal
 
-pub returns-in_default : goal.returns-in_default
-unfolding marked
-returns-in_default c = λ value B T O U N. refused _ _ _ _ _ _ _ _ _ (ap number_in c.in_default.is) (c.no_number.ensures _
-    c.in_default.is) (c.eight-a.ensures _)
+pub returns-in_err-bits : goal.returns-in_err-bits
+unfolding r.marked
+returns-in_err-bits c = λ value. out-err c.from_residual.ensures (fails _ _ c.in_err-bits.ensures)
 
 pub returns : goal.returns
-unfolding marked
-returns c = λ value B T O U N. then _ _ _ _ _ _ _ _ _ _ (ap number_in c.in-Whole.is) (c.eight-a.ensures _) (does_numbered _ _ _ _ _ _ _ _ _ _ _ _
-    c.numbered.ensures)
+unfolding r.marked
+returns c = λ value. then _ _ c.in_ok-bits.ensures c.numbered.ensures

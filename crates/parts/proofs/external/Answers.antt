@@ -1,17 +1,14 @@
 -- A class, and the refusal of what is externalizable.
-use mathlib.Core.Path.{ap}
-use Rattle.decide.specs.Outcomes.{text_of}
 use Rattle.parts.specs.Heads.{external_trait}
+use Rattle.scan.proofs.Laws.{then, fails, out-err}
 use Rattle.scan.proofs.Does.{does_refuse}
-use Rattle.scan.proofs.Then.{then, refused}
+use mathlib.Core.Path.{refl}
 use Rattle.parts.proofs.external.Goals as goal
 
-pub returns-in_default : goal.returns-in_default
+pub returns-in_err-text : goal.returns-in_err-text
 unfolding external_trait
-returns-in_default c = λ R O U N. refused _ _ _ _ _ _ _ _ _ (ap text_of c.in_default.is) (c.no_text.ensures _ c.in_default.is)
-    (c.text-a.ensures R O U N)
+returns-in_err-text c = out-err c.from_residual.ensures (fails _ _ c.in_err-text.ensures)
 
 pub returns : goal.returns
 unfolding external_trait
-returns c = λ R O U N. then _ _ _ _ _ _ _ _ _ _ (ap text_of c.in-Have.is)
-    (c.text-a.ensures R O U N) (does_refuse _ _ _ _ _ _ c.refuse.ensures)
+returns c = then _ _ c.in_ok-text.ensures (record { read = does_refuse _ _ _ _ _ _ c.refuse.ensures; same = (refl, (refl, refl)) })

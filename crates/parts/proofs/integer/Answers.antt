@@ -1,17 +1,12 @@
--- A word, and what it decides.
-use mathlib.Core.Path.{ap}
-use Rattle.format.specs.Reading.{marked}
-use Rattle.scan.specs.Reads.{number_in}
-use Rattle.scan.proofs.Does.{does_integer}
-use Rattle.scan.proofs.Then.{then, refused}
+-- What is read, and what its row shows.
+use Rattle.format.specs.Reading as r
+use Rattle.scan.proofs.Laws.{then, fails, out-err}
 use Rattle.parts.proofs.integer.Goals as goal
 
-pub returns-in_default : goal.returns-in_default
-unfolding marked
-returns-in_default c = λ value B T O U N. refused _ _ _ _ _ _ _ _ _ (ap number_in c.in_default.is) (c.no_number.ensures _
-    c.in_default.is) (c.word-a.ensures.0 _)
+pub returns-in_err-w : goal.returns-in_err-w
+unfolding r.marked
+returns-in_err-w c = λ value. out-err c.from_residual.ensures (fails _ _ c.in_err-w.ensures.0)
 
 pub returns : goal.returns
-unfolding marked
-returns c = λ value B T O U N. then _ _ _ _ _ _ _ _ _ _ (ap number_in c.in-Whole.is) (c.word-a.ensures.0 _) (does_integer _ _ _ _ _ _ _ _ _ _ _ _
-    c.integer_end.ensures)
+unfolding r.marked
+returns c = λ value. then _ _ c.in_ok-w.ensures.0 c.integer_end.ensures

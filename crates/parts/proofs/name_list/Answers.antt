@@ -1,46 +1,20 @@
 -- A name and its place among the names, so many times.
-use native.Mathlib.Omega.{arith}
-use mathlib.Core.Path.{refl, sym, ap, ◌∙◌}
-use Rattle.decide.specs.Outcomes.{text_of}
-use Rattle.scan.proofs.Does.{does_named}
-use Rattle.scan.proofs.Loops.{names-all, names_more, names-none}
-use Rattle.scan.proofs.Then.{then, refused}
+use Rattle.scan.proofs.Laws.{then, fails, given, out-err, left-all, left-as, left-read, left-then}
+use Rattle.parts.proofs.Names.{names-all, names_more, names-none}
 use Rattle.parts.proofs.name_list.Goals as goal
 
-pub loop-i-init : goal.loop-i-init
-loop-i-init c = record { left = λ R O U. names-all _ _ _ _; store = refl; strings = refl; names = refl }
+pub loop-init : goal.loop-init
+loop-init c = left-all _ (names-all _ _ _ _)
 
-pub returns-in_default : goal.returns-in_default
-returns-in_default c = λ R O U. refused _ _ _ _ _ _ _ _ _ (ap text_of c.in_default.is) (c.no_text.ensures _ c.in_default.is)
-    (c.text-a.ensures R O U _) ∙ sym (names_more _ _ _ _ _ c.loop-i-test.true) ∙ c.loop-i.invariant.left R O U
+pub returns-in_err-s : goal.returns-in_err-s
+returns-in_err-s c = out-err c.from_residual.ensures (left-read (left-as (names_more _ _ c.loop-test.true) c.loop.invariant) (fails _ _ c.in_err-s.ensures))
 
-pub returns-in_default-b : goal.returns-in_default-b
-returns-in_default-b c = λ R O U. then _ _ _ _ _ _ _ _ _ _ (ap text_of c.in-Have.is) (c.text-a.ensures R O U _) (refused _ _ _ _ _ _ _ _ _ (ap text_of
-    c.in_default-b.is) (c.no_text-in_default-b.ensures _ c.in_default-b.is) (does_named _ _ _ _ _ _ _ _ _ _ _
-    c.named-b.ensures)) ∙ sym (names_more _ _ _ _ _ c.loop-i-test.true) ∙ c.loop-i.invariant.left R O U
+pub returns-in_err-named : goal.returns-in_err-named
+returns-in_err-named c = out-err c.from_residual-in_err-named.ensures (left-read (left-as (names_more _ _ c.loop-test.true) c.loop.invariant)
+    (then _ _ c.in_ok-s.ensures (fails _ _ c.in_err-named.ensures)))
 
-pub overflow_add-i : goal.overflow_add-i
-overflow_add-i c = omega (
-  arith,
-  c.loop-i-test.true,
-  c.ranges.n,
-)
-
-pub loop-i-smaller : goal.loop-i-smaller
-loop-i-smaller c = omega (
-  arith,
-  c.loop-i-test.true,
-)
-
-pub loop-i-preserved : goal.loop-i-preserved
-loop-i-preserved c = record {
-  left = λ R O U. then _ _ _ _ _ _ _ _ _ _ (ap text_of c.in-Have.is) (c.text-a.ensures R O U _) (then _ _ _ _ _ _ _ _ _ _ (ap text_of
-      c.in-Have-b.is) (does_named _ _ _ _ _ _ _ _ _ _ _ c.named-b.ensures) refl) ∙ sym (names_more _ _ _ _ _ c.loop-i-test.true) ∙
-      c.loop-i.invariant.left R O U;
-  store = c.text-a.auto.store ∙ c.loop-i.invariant.store;
-  strings = c.text-a.auto.strings ∙ c.loop-i.invariant.strings;
-  names = c.named-b.auto.names ∙ c.loop-i.invariant.names;
-}
+pub loop-preserved : goal.loop-preserved
+loop-preserved c = left-then _ _ (left-then _ _ (left-as (names_more _ _ c.loop-test.true) c.loop.invariant) c.in_ok-s.ensures) c.in_ok-named.ensures
 
 pub returns : goal.returns
-returns c = λ R O U. names-none _ _ _ _ _ c.loop-i-test.false ∙ c.loop-i.invariant.left R O U
+returns c = left-read (left-as (names-none _ _ c.loop-test.false) c.loop.invariant) given

@@ -1,9 +1,8 @@
+-- What is left of the names.
 use Prim.Native.Nat.{◌-◌}
-use Rattle.scan.proofs.Loops.{Names}
+use Rattle.format.specs.Reading.{names}
+use Rattle.scan.proofs.Laws.{Left}
 use Rattle.parts.proofs.name_list.Given as goal
 
-abbrev pub invariant-loop-i : goal.invariant-loop-i
-invariant-loop-i l = Names l.message l.initial.store l.initial.strings l.initial.names l.n l.initial.cur l.store l.strings l.names l.cur l.i
-
-abbrev pub decreases-loop-i : goal.decreases-loop-i
-decreases-loop-i l = l.n - l.i
+abbrev pub invariant-loop : goal.invariant-loop
+invariant-loop l = Left (names (l.n - l.counter)) (names l.n) l.initial.reading l.reading

@@ -1,24 +1,18 @@
--- Room is reserved, and the row shows it.
-use mathlib.Core.Path.{sym, ap, ◌∙◌}
-use Rattle.decide.specs.Outcomes.{done_of, text_of}
-use Rattle.scan.proofs.Does.{does_reserved, does_bodied}
-use Rattle.scan.proofs.Then.{then, passed, refused, returned}
+-- Room where it is needed, which the row shows.
+use mathlib.Core.Path.{refl, sym}
+use Rattle.format.specs.Reading as r
+use Rattle.scan.proofs.Laws.{then, fails, given, alike, out-err}
 use Rattle.scan.proofs.Sizes.{room-none, room-some}
 use Rattle.parts.proofs.room.Goals as goal
 
 pub returns-then-n-eq0 : goal.returns-then-n-eq0
-returns-then-n-eq0 c = λ B T O U N bs h. room-none _ _ _ _ _ c.if-n-eq0.true
+returns-then-n-eq0 c = record { read = rw (c.default.ensures.0, c.default.ensures.1) (room-none _ _ _ _ _ c.if-n-eq0.true); same = (refl, (refl, refl)) }
 
-pub returns-in_default : goal.returns-in_default
-returns-in_default c = λ B T O U N bs h. passed _ _ _ _ _ _ _ _ (ap text_of c.in_default.is) (does_reserved _ _ _ _ _ _ _ _ _ _
-    (c.reserved-a.ensures B h)) ∙ sym (room-some _ _ _ _ _ c.if-n-eq0.false)
+pub returns-in_err-s : goal.returns-in_err-s
+returns-in_err-s c = out-err c.from_residual.ensures (alike (sym (room-some _ _ _ _ _ c.if-n-eq0.false)) (fails _ _ c.in_err-s.ensures))
 
-pub returns-in_default-b : goal.returns-in_default-b
-returns-in_default-b c = λ B T O U N bs h. then _ _ _ _ _ _ _ _ _ _ (ap text_of c.in-Have.is) (does_reserved _ _ _ _ _ _ _ _ _ _ (c.reserved-a.ensures B h)) (refused
-    _ _ _ _ _ _ _ _ _ (ap done_of c.in_default-b.is) (c.not_done.ensures _ c.in_default-b.is) (does_bodied _ _ _ _
-    _ _ _ _ _ _ _ _ c.bodied-b.ensures)) ∙ sym (room-some _ _ _ _ _ c.if-n-eq0.false)
+pub returns-in_err-bodied : goal.returns-in_err-bodied
+returns-in_err-bodied c = out-err c.from_residual-in_err-bodied.ensures (alike (sym (room-some _ _ _ _ _ c.if-n-eq0.false)) (then _ _ c.in_ok-s.ensures (fails _ _ c.in_err-bodied.ensures)))
 
 pub returns : goal.returns
-returns c = λ B T O U N bs h. then _ _ _ _ _ _ _ _ _ _ (ap text_of c.in-Have.is) (does_reserved _ _ _ _ _ _ _ _ _ _ (c.reserved-a.ensures B h)) (then _
-    _ _ _ _ _ _ _ _ _ (ap done_of c.in-Fine.is) (does_bodied _ _ _ _ _ _ _ _ _ _ _ _ c.bodied-b.ensures) (returned _ _ _ _)) ∙ sym
-    (room-some _ _ _ _ _ c.if-n-eq0.false)
+returns c = alike (sym (room-some _ _ _ _ _ c.if-n-eq0.false)) (then _ _ c.in_ok-s.ensures (then _ _ c.in_ok-bodied.ensures given))

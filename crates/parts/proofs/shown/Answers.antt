@@ -1,17 +1,12 @@
--- A body, and the row's end.
-use mathlib.Core.Path.{ap}
-use Rattle.decide.specs.Outcomes.{done_of}
+-- The span, and the end.
 use Rattle.parts.specs.Heads.{last_body}
-use Rattle.scan.proofs.Does.{does_bodied, does_closed}
-use Rattle.scan.proofs.Then.{then, passed}
+use Rattle.scan.proofs.Laws.{then, fails, out-err}
 use Rattle.parts.proofs.shown.Goals as goal
 
-pub returns-in_default : goal.returns-in_default
+pub returns-in_err-bodied : goal.returns-in_err-bodied
 unfolding last_body
-returns-in_default c = λ B T O U N bs. passed _ _ _ _ _ _ _ _ (ap done_of c.in_default.is) (does_bodied _ _ _ _ _ _ _ _ _ _ _ _
-    c.bodied-a.ensures)
+returns-in_err-bodied c = out-err c.from_residual.ensures (fails _ _ c.in_err-bodied.ensures)
 
 pub returns : goal.returns
 unfolding last_body
-returns c = λ B T O U N bs. then _ _ _ _ _ _ _ _ _ _ (ap done_of c.in-Fine.is) (does_bodied _ _ _ _ _ _ _ _ _ _ _ _ c.bodied-a.ensures) (does_closed _
-    _ _ _ _ _ _ _ _ _ _ c.closed.ensures)
+returns c = then _ _ c.in_ok-bodied.ensures c.closed.ensures

@@ -1,41 +1,24 @@
--- Room for a body, its bytes, the verdict on them, and the row's end.
-use mathlib.Core.Path.{refl, ap}
-use mathlib.Core.List.{[]}
-use Rattle.decide.specs.Outcomes.{done_of, text_of, whether_of}
-use Rattle.format.specs.Reading.{new_of, chars_of}
-use Rattle.scan.proofs.Does.{does_judged, does_closed}
+-- Room for a text, its bytes, the verdict, and the row's end.
+use Rattle.format.specs.Reading as r
+use Rattle.scan.proofs.Laws.{then, fails, chosen, out-err}
 use Rattle.scan.proofs.Reserves.{room-placed}
-use Rattle.scan.proofs.Then.{then, passed, refused, chosen}
 use Rattle.parts.proofs.xml.Goals as goal
 
-pub returns-in_default : goal.returns-in_default
-unfolding new_of
-returns-in_default c = λ value T O U N. refused _ _ _ _ _ _ _ _ _ (ap text_of c.in_default.is) (c.no_text.ensures _ c.in_default.is)
-    (c.room-a.ensures c.args.store.now T O U N _ refl)
+pub returns-in_err-s : goal.returns-in_err-s
+unfolding r.new_of
+returns-in_err-s c = λ value. out-err c.from_residual.ensures (fails _ _ c.in_err-s.ensures)
 
-pub checked-b-requires : goal.checked-b-requires
-checked-b-requires c = (room-placed _ _ _ c.args.store.now [] [] [] [] [] _ _ _ _ _ (ap text_of c.in-Have.is) (c.room-a.ensures
-    c.args.store.now [] [] [] [] [] refl)).inside
+pub checked-requires : goal.checked-requires
+checked-requires c = (room-placed _ _ _ _ _ _ _ _ _ _ _ _ _ c.in_ok-s.ensures.read).inside
 
-pub returns-in_default-b : goal.returns-in_default-b
-unfolding new_of
-returns-in_default-b c = λ value T O U N. then _ _ _ _ _ _ _ _ _ _ (ap text_of c.in-Have.is) (c.room-a.ensures c.args.store.now T O U N _ refl) (refused _ _ _
-    _ _ _ _ _ _ (ap whether_of c.in_default-b.is) (c.no_flag.ensures _ c.in_default-b.is) (chosen (chars_of _) _ _ _
-    _ (room-placed _ _ _ c.args.store.now [] [] [] [] [] _ _ _ _ _ (ap text_of c.in-Have.is) (c.room-a.ensures c.args.store.now
-    [] [] [] [] [] refl)).whole (c.checked-b.ensures _ T O U N)))
+pub returns-in_err-valid : goal.returns-in_err-valid
+unfolding r.new_of
+returns-in_err-valid c = λ value. out-err c.from_residual-in_err-valid.ensures (then _ _ c.in_ok-s.ensures (fails _ _ (chosen (r.chars_of _) (room-placed _ _ _ _ _ _ _ _ _ _ _ _ _ c.in_ok-s.ensures.read).whole c.in_err-valid.ensures)))
 
-pub returns-in_default-e : goal.returns-in_default-e
-unfolding new_of
-returns-in_default-e c = λ value T O U N. then _ _ _ _ _ _ _ _ _ _ (ap text_of c.in-Have.is) (c.room-a.ensures c.args.store.now T O U N _ refl) (then _ _ _ _
-    _ _ _ _ _ _ (ap whether_of c.in-Is.is) (chosen (chars_of _) _ _ _ _ (room-placed _ _ _
-    c.args.store.now [] [] [] [] [] _ _ _ _ _ (ap text_of c.in-Have.is) (c.room-a.ensures c.args.store.now [] [] [] [] []
-    refl)).whole (c.checked-b.ensures _ T O U N)) (passed _ _ _ _ _ _ _ _ (ap done_of c.in_default-e.is) (does_judged _ _ _ _ _ _ _ _ _ _
-    c.judged-e.ensures)))
+pub returns-in_err-judged : goal.returns-in_err-judged
+unfolding r.new_of
+returns-in_err-judged c = λ value. out-err c.from_residual-in_err-judged.ensures (then _ _ c.in_ok-s.ensures (then _ _ (chosen (r.chars_of _) (room-placed _ _ _ _ _ _ _ _ _ _ _ _ _ c.in_ok-s.ensures.read).whole c.in_ok-valid.ensures) (fails _ _ c.in_err-judged.ensures)))
 
 pub returns : goal.returns
-unfolding new_of
-returns c = λ value T O U N. then _ _ _ _ _ _ _ _ _ _ (ap text_of c.in-Have.is) (c.room-a.ensures c.args.store.now T O U N _ refl) (then _ _ _ _
-    _ _ _ _ _ _ (ap whether_of c.in-Is.is) (chosen (chars_of _) _ _ _ _ (room-placed _ _ _ c.args.store.now [] [] [] [] [] _ _ _ _ _
-    (ap text_of c.in-Have.is) (c.room-a.ensures c.args.store.now [] [] [] [] [] refl)).whole (c.checked-b.ensures _ T O U N))
-    (then _ _ _ _ _ _ _ _ _ _ (ap done_of c.in-Fine.is) (does_judged _ _ _ _ _ _ _ _ _ _ c.judged-e.ensures) (does_closed _ _ _ _ _ _ _ _ _ _
-    _ c.closed.ensures)))
+unfolding r.new_of
+returns c = λ value. then _ _ c.in_ok-s.ensures (then _ _ (chosen (r.chars_of _) (room-placed _ _ _ _ _ _ _ _ _ _ _ _ _ c.in_ok-s.ensures.read).whole c.in_ok-valid.ensures) (then _ _ c.in_ok-judged.ensures c.closed.ensures))

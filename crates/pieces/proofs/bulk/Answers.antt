@@ -11,8 +11,7 @@ pub returns : goal.returns
 unfolding message_limit
 returns c = λ h. (
   omega (arith, c.if-w-lt-TEXT.false),
-  omega (arith, c.least.ensures.0, c.least-2.ensures.0),
-  omega (arith, c.least.ensures.1, c.least-2.ensures.0),
-  omega
-      (arith, c.least-2.ensures.1, c.requires),
+  omega (arith, c.min.ensures, c.min-2.ensures),
+  omega (arith, c.min.ensures, c.min-2.ensures),
+  omega (arith, c.min.ensures, c.min-2.ensures, c.requires),
 )

@@ -1,15 +1,10 @@
--- Only a refusal.
-use Rattle.resume.specs.Steps.{settled}
+-- Refused or not.
+use mathlib.Core.Path.{sym, refl, ◌∙◌}
+use Rattle.pieces.proofs.Steps.{settles_err, settles_ok}
 use Rattle.pieces.proofs.settle.Goals as goal
 
-pub returns-in-Wait : goal.returns-in-Wait
-unfolding settled
-returns-in-Wait c = λ F. rw c.in-Wait.is
+pub returns-then-is_err-clause-settled : goal.returns-then-is_err-clause-settled
+returns-then-is_err-clause-settled c = settles_err _ _ _ (sym c.is_err.ensures.value ∙ c.if-is_err.true) c.clear.ensures.0
 
-pub returns-in-Finished : goal.returns-in-Finished
-unfolding settled
-returns-in-Finished c = λ F. rw c.in-Finished.is
-
-pub returns-in-Refused : goal.returns-in-Refused
-unfolding settled
-returns-in-Refused c = λ F. rw (c.in-Refused.is, c.clear.ensures)
+pub returns-else-is_err-clause-settled : goal.returns-else-is_err-clause-settled
+returns-else-is_err-clause-settled c = settles_ok _ _ _ (sym c.is_err.ensures.value ∙ c.if-is_err.false) refl

@@ -1,5 +1,5 @@
 -- Six numbers from their places.
-use mathlib.Core.Path.{refl}
+use Rattle.std.proofs.Common.{refl}
 use Rattle.format.specs.Numbers.{frame_at}
 use Rattle.resume.proofs.frame_at.Goals as goal
 

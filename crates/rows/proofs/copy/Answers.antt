@@ -1,28 +1,17 @@
--- The loop's invariant: what is left to copy, into what there is, makes the whole.
-use borrow.Author.Rules.{rules}
+-- The part overwritten, as the definition writes it.
 use native.Mathlib.Omega.{arith}
-use mathlib.Core.Path.{◌≡◌, refl}
-use Prim.Native.Nat.{◌+◌}
-use lib.ListN.{length-set}
-use Rattle.rows.proofs.Part.{part-more, part-whole}
+use mathlib.Core.Path.{◌≡◌, sym, ap, ◌∙◌}
+use mathlib.Core.List.{List, ◌++◌, append_assoc}
+use Prim.Native.Nat.{ℕ, ◌+◌, ◌-◌}
+use borrow.Rule.Slice.PartMut.{put_mid}
+use lib.ListN.{length, take}
+use lib.Seq.{sets-eq, drop-drop}
 use Rattle.rows.proofs.copy.Goals as goal
 
-pub loop-i-init : goal.loop-i-init
-loop-i-init c = (
-  search rules,
-  refl,
-  let p : c.args.at + 0 ≡ c.args.at = omega arith in let q : c.args.from + 0 ≡ c.args.from = omega arith in
-      rw (p, q),
-)
-
-pub loop-i-preserved : goal.loop-i-preserved
-loop-i-preserved c = (
-  omega arith,
-  simp length-set c.loop-i.invariant.1,
-  part-more _ _ c.args.src.now
-      c.args.at c.args.from c.args.n c.loop-i.i
-      (omega arith) (omega arith) c.loop-i.invariant.2,
-)
-
 pub returns : goal.returns
-returns c = part-whole _ _ _ _ _ c.args.n c.loop-i.i (omega arith) (omega arith) c.loop-i.invariant.2
+returns c = let k : c.args.at + length c.args.bytes.now - c.args.at ≡ length c.args.bytes.now = omega arith in
+    ap (λ (n : ℕ). put_mid c.args.at n c.args.dst.now c.copy_from_slice.new.self) k
+    ∙ ap (λ (ys : List ℕ). put_mid c.args.at (length c.args.bytes.now) c.args.dst.now ys) c.copy_from_slice.ensures.after
+    ∙ ap (λ (l : List ℕ). take c.args.at c.args.dst.now ++ (c.args.bytes.now ++ l)) (drop-drop (length c.args.bytes.now) c.args.at c.args.dst.now)
+    ∙ sym (append_assoc (take c.args.at c.args.dst.now) c.args.bytes.now _)
+    ∙ sym (sets-eq c.args.bytes.now c.args.dst.now c.args.at c.requires)

@@ -1,45 +1,30 @@
 -- By what follows the marker.
 use mathlib.Core.Path.{sym, ap, ◌∙◌}
-use Rattle.decide.specs.Outcomes.{kind_in, body_no}
+use Rattle.decide.specs.Outcomes.{kind_in}
 use Rattle.format.specs.Step.{begun}
-use Rattle.format.specs.Numbers.{use_work, work_of}
-use Rattle.resume.proofs.Settled.{waits}
+use Rattle.format.specs.Numbers.{work_of, use_work}
+use Rattle.resume.proofs.Moves.{as_is, waits}
 use Rattle.step.proofs.begun.Goals as goal
+use Rattle.step.proofs.begun.Goals.{in-Integer, in-String, in-Object, in-Sized}
 
 pub returns-in-Leaf : goal.returns-in-Leaf
 unfolding begun
-returns-in-Leaf c = λ B T O U. rw (sym c.kind_of-kind.ensures ∙ ap (λ r. kind_in r (body_no c.args.b)) c.in-Leaf.is)
-    (c.pop.ensures B T O U)
-
-pub returns-in-Integer : goal.returns-in-Integer
-unfolding begun work_of
-returns-in-Integer c = λ B T O U. rw (sym c.kind_of-kind.ensures ∙ ap (λ r. kind_in r (body_no
-    c.args.b)) c.in-Integer.is) (waits _ _ _ _ _ _
-    (c.row_work.ensures ∙ rw c.no_span.ensures))
+returns-in-Leaf c = as_is (λ ts k m. ap (λ x. begun ts c.args.row x k m) (sym c.kind_of.ensures ∙ ap kind_in c.in-Leaf.is)) c.pop.ensures
 
 pub returns-in-Double : goal.returns-in-Double
 unfolding begun work_of
-returns-in-Double c = λ B T O U. rw (sym c.kind_of-kind.ensures ∙ ap (λ r. kind_in r (body_no
-    c.args.b)) c.in-Double.is) (waits _ _ _ _ _ _
-    (c.row_work-in-Double.ensures ∙ rw c.no_span-in-Double.ensures))
+returns-in-Double c = as_is (λ ts k m. ap (λ x. begun ts c.args.row x k m) (sym c.kind_of.ensures ∙ ap kind_in c.in-Double.is)) (waits c.row_work-double.ensures)
 
-pub returns-in-String : goal.returns-in-String
+pub returns : goal.returns
 unfolding begun work_of use_work
-returns-in-String c = λ B T O U. rw (sym c.kind_of-kind.ensures ∙ ap (λ r. kind_in r (body_no
-    c.args.b)) c.in-String.is) (waits _ _ _ _ _ _
-    (c.string_work.ensures ∙ rw c.no_trait.ensures))
-
-pub returns-in-Object : goal.returns-in-Object
-unfolding begun work_of
-returns-in-Object c = λ B T O U. rw (sym c.kind_of-kind.ensures ∙ ap (λ r. kind_in r (body_no
-    c.args.b)) c.in-Object.is) (waits _ _ _ _ _ _
-    (c.row_work-in-Object.ensures ∙ rw c.no_span-in-Object.ensures))
-
-pub returns-in-Sized : goal.returns-in-Sized
-unfolding begun work_of
-returns-in-Sized c = λ B T O U. rw (sym c.kind_of-kind.ensures ∙ ap (λ r. kind_in r (body_no c.args.b)) c.in-Sized.is)
-    (waits _ _ _ _ _ _ (c.row_work-in-Sized.ensures ∙ rw (
-      c.no_span-in-Sized.ensures,
-      c.purpose_of.ensures,
-      c.body_of.ensures,
-    )))
+returns c = elim c.match-kind_of.branch [
+  | in-Integer w ↦
+      as_is (λ ts k m. ap (λ x. begun ts c.args.row x k m) (sym c.kind_of.ensures ∙ ap kind_in w.in-Integer.is)) (waits (rw (c.row_work.ensures, w.purpose-is)))
+  | in-String w ↦
+      as_is (λ ts k m. ap (λ x. begun ts c.args.row x k m) (sym c.kind_of.ensures ∙ ap kind_in w.in-String.is)) (waits (rw (c.row_work.ensures, w.purpose-is)))
+  | in-Object w ↦
+      as_is (λ ts k m. ap (λ x. begun ts c.args.row x k m) (sym c.kind_of.ensures ∙ ap kind_in w.in-Object.is)) (waits (rw (c.row_work.ensures, w.purpose-is)))
+  | in-Sized w ↦
+      as_is (λ ts k m. ap (λ x. begun ts c.args.row x k m) (sym c.kind_of.ensures ∙ ap kind_in w.in-Sized.is))
+      (waits (rw (c.row_work.ensures, w.purpose-is, w.purpose_of-purpose.ensures)))
+]

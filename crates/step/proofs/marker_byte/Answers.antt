@@ -1,31 +1,24 @@
 -- A row for the value, and what follows its marker.
 use native.Mathlib.Omega.{arith}
-use mathlib.Core.Path.{refl, sym, ap, ◌∙◌}
 use Rattle.rows.specs.Memory.{open_limit}
-use Rattle.decide.specs.Outcomes.{begun_of}
-use Rattle.format.specs.Step.{act}
-use Rattle.resume.specs.Steps.{after_of}
-use Rattle.resume.proofs.Decided.{gave-marker, stop-marker}
-use Rattle.resume.proofs.Refusals.{refuses}
+use Rattle.format.specs.Decide.{kind_of}
+use Rattle.format.specs.Step.{begun}
 use Rattle.states.proofs.Frames.{length-frames}
-use Rattle.step.proofs.Markers.{marker_open}
+use Rattle.resume.proofs.Moves.{as_here, stopped_by, after_it}
+use Rattle.step.proofs.Markers.{marks, marker_room}
 use Rattle.step.proofs.marker_byte.Goals as goal
 
-pub returns-in_default : goal.returns-in_default
-unfolding act open_limit
-returns-in_default c = λ B T O U. rw (length-frames c.args.frames.now c.args.depth, sym c.shown.ensures)
-    (refuses _ _ _ _ _ (c.no_row.ensures _ c.in_default.is) (c.marker-a.auto.rows, refl, refl, refl, refl, refl)
-    ∙ ap (after_of _) (sym (stop-marker _ _ _ _ _ _ _ _ _ _ _ _ c.marker-a.ensures _ _ (ap begun_of c.in_default.is))))
+pub returns-in_err-row : goal.returns-in_err-row
+unfolding open_limit
+returns-in_err-row c =
+    as_here (stopped_by (λ ts row. begun ts row (kind_of c.args.b)) c.in_err-row.ensures c.from_residual.ensures)
+    (marks _ _ c.args.b c.args.f.now.depth _ _ _ (length-frames c.args.f.now.frames.now c.args.f.now.depth) c.shown.ensures)
 
 pub begun-requires : goal.begun-requires
-begun-requires c = omega (
-  arith,
-  marker_open _ _ _ _ _ _ _ _ _ c.marker-a.ensures (ap
-      begun_of c.in-Row.is),
-)
+begun-requires c = omega (arith, c.in_ok-row.ensures.inside.depth, marker_room _ _ c.in_ok-row.ensures)
 
 pub returns : goal.returns
-unfolding act open_limit
-returns c = λ B T O U. rw (length-frames c.args.frames.now c.args.depth, sym c.shown.ensures)
-    (c.begun.ensures B T O U ∙ ap (after_of _) (sym (gave-marker _ _ _ _ _ _ _ _ _ _ _ _ c.marker-a.ensures _ _ _ (ap begun_of
-    c.in-Row.is))))
+unfolding open_limit
+returns c =
+    as_here (after_it (λ ts row. begun ts row (kind_of c.args.b)) c.in_ok-row.ensures c.begun.ensures)
+    (marks _ _ c.args.b c.args.f.now.depth _ _ _ (length-frames c.args.f.now.frames.now c.args.f.now.depth) c.shown.ensures)

@@ -6,7 +6,7 @@ use Rattle.step.proofs.text_work.Goals as goal
 
 pub returns-then-w-eq-XML : goal.returns-then-w-eq-XML
 unfolding work_of
-returns-then-w-eq-XML c = rw c.if-w-eq-XML.true c.row_work.ensures
+returns-then-w-eq-XML c = rw (c.if-w-eq-XML.true, c.row_work.ensures)
 
 pub use_work-requires : goal.use_work-requires
 use_work-requires c = c.requires c.if-w-eq-XML.false

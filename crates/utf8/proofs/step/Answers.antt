@@ -4,7 +4,6 @@ use mathlib.Core.Path.{sym, ◌∙◌}
 use Rattle.utf8.proofs.States.{broken-step}
 use Rattle.utf8.proofs.Moves.{plain_step}
 use Rattle.utf8.proofs.Fold.{fold_one}
-use borrow.Author.Rules.{rules}
 use Rattle.utf8.proofs.step.Goals as goal
 
 pub returns-then-b-lt-PAST_PLAIN : goal.returns-then-b-lt-PAST_PLAIN
@@ -12,9 +11,6 @@ returns-then-b-lt-PAST_PLAIN c = rw c.if-k-eq-BETWEEN.true (sym (plain_step _ c.
 
 pub returns-then-k-gt-BROKEN : goal.returns-then-k-gt-BROKEN
 returns-then-k-gt-BROKEN c = sym (broken-step _ _ (omega arith))
-
-pub run_on-requires : goal.run_on-requires
-run_on-requires c = (c.if-k-gt-BROKEN.false, search rules)
 
 pub returns : goal.returns
 returns c = c.run_on.ensures ∙ fold_one _ _

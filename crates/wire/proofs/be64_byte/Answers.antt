@@ -1,7 +1,8 @@
 -- One byte of a number of eight.
 use native.Mathlib.Omega.{arith}
 use mathlib.Core.Path.{sym, ap, ◌∙◌}
-use Prim.Native.Nat.{◌*◌, ◌-◌}
+use Rattle.std.proofs.Common.{Some}
+use Prim.Native.Nat.{ℕ, ◌*◌, ◌-◌}
 use lib.Dec.{lit≤}
 use native.Mathlib.Nat.{pos_of_ne-zero}
 use Rattle.wire.specs.Big.{digit_of}
@@ -20,11 +21,11 @@ unfolding digit_of
 returns-then-n-before-ne0 c = sym (too_large 8 7 _ _ _ c.if-left-gt7.false (not-shifted-out _ _ c.if-n-before-ne0.true))
 
 pub returns-then-left-eq0 : goal.returns-then-left-eq0
-returns-then-left-eq0 c = ap Whole (join 56 8 64 (before_small 8 7 c.args.left (shifted-out _ (8 * (7 -
+returns-then-left-eq0 c = rw c.from.ensures (ap (λ (k : ℕ). Some (Whole k)) (join 56 8 64 (before_small 8 7 c.args.left (shifted-out _ (8 * (7 -
     c.args.left)) c.if-n-before-ne0.false)) (omega arith) (lit≤ tt)) ∙ sym (digit-last _ _ _ c.if-left-gt7.false
-    (shifted-out _ (8 * (7 - c.args.left)) c.if-n-before-ne0.false) c.if-left-eq0.true)
+    (shifted-out _ (8 * (7 - c.args.left)) c.if-n-before-ne0.false) c.if-left-eq0.true))
 
 pub returns : goal.returns
-returns c = ap More (join 56 8 64 (before_small 8 7 c.args.left (shifted-out _ (8 * (7 -
+returns c = rw c.from.ensures (ap (λ (k : ℕ). Some (More k)) (join 56 8 64 (before_small 8 7 c.args.left (shifted-out _ (8 * (7 -
     c.args.left)) c.if-n-before-ne0.false)) (omega arith) (lit≤ tt)) ∙ sym (digit-more _ _ _ c.if-left-gt7.false
-    (shifted-out _ (8 * (7 - c.args.left)) c.if-n-before-ne0.false) (pos_of_ne-zero c.if-left-eq0.false))
+    (shifted-out _ (8 * (7 - c.args.left)) c.if-n-before-ne0.false) (pos_of_ne-zero c.if-left-eq0.false)))

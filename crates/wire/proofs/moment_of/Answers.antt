@@ -8,7 +8,7 @@ use lib.Dec.{leb, lit<}
 use lib.Ieee.{binary64, of_bits, to_unsigned}
 use lib.Ieee.Casts.{to_signed_in}
 use Rattle.wire.specs.Date.{bounded}
-use Rattle.wire.specs.declared.Moment.TheVariants.{At}
+use Rattle.std.proofs.Common.{Some}
 use Rattle.wire.proofs.Dates as dates
 use Rattle.wire.proofs.Steps as steps
 use Rattle.wire.proofs.moment_of.Goals as goal
@@ -17,15 +17,15 @@ pub whole_part-whole-requires : goal.whole_part-whole-requires
 whole_part-whole-requires c = rw (and_mask c.args.bits 63) (
   mod-lt c.args.bits (lit< tt),
   dates.refused-size
-      c.args.bits ∙ (not-true _ (sym c.is_date.ensures ∙ c.if-is_date.true)),
+      c.args.bits ∙ (not-true _ (sym c.is_date.ensures ∙ c.if-not-is_date.false)),
 )
 
-pub returns-then-is_date : goal.returns-then-is_date
-returns-then-is_date c = ap At (steps.kept (c.signed.ensures ∙ ap (bounded (leb (2 ^ 63) c.args.bits))
+pub returns : goal.returns
+returns c = ap Some (steps.kept (c.signed.ensures ∙ ap (bounded (leb (2 ^ 63) c.args.bits))
     (c.whole_part-whole.ensures ∙ ap (λ (n : ℕ). to_unsigned 64 (of_bits binary64 n)) (and_mask c.args.bits 63))
     ∙ sym (dates.signed_is c.args.bits (not-true _ (sym c.is_date.ensures ∙
-    c.if-is_date.true)))) (to_signed_in 63 (of_bits binary64 c.args.bits))) ∙ sym (dates.moment-at
-    c.args.bits (not-true _ (sym c.is_date.ensures ∙ c.if-is_date.true)))
+    c.if-not-is_date.false)))) (to_signed_in 63 (of_bits binary64 c.args.bits))) ∙ sym (dates.moment-at
+    c.args.bits (not-true _ (sym c.is_date.ensures ∙ c.if-not-is_date.false)))
 
-pub returns : goal.returns
-returns c = sym (dates.no-moment c.args.bits (not-false _ (sym c.is_date.ensures ∙ c.if-is_date.false)))
+pub returns-then-not-is_date : goal.returns-then-not-is_date
+returns-then-not-is_date c = sym (dates.no-moment c.args.bits (not-false _ (sym c.is_date.ensures ∙ c.if-not-is_date.true)))

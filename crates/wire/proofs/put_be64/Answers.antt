@@ -1,29 +1,8 @@
--- Eight bytes of a number, where they fit.
-use native.Mathlib.Omega.{arith}
-use Rattle.wire.proofs.Big.{bytes-length}
-use Rattle.wire.proofs.Room as room
-use Rattle.wire.specs.Big.{bytes_of}
-use lib.Dec.{lit≤}
+-- The eight bytes.
+use mathlib.Core.Path.{ap, ◌∙◌}
+use Rattle.wire.specs.Put.{put_at}
+use Rattle.wire.proofs.Big.{bytes-of_eight}
 use Rattle.wire.proofs.put_be64.Goals as goal
 
-pub put_be-requires : goal.put_be-requires
-put_be-requires c = (
-  lit≤ tt,
-  room.room 8 c.args.at c.args.out.now
-      c.fits.ensures c.if-fits.true,
-)
-
-pub overflow_add-result : goal.overflow_add-result
-overflow_add-result c = omega (
-  arith,
-  room.room 8 c.args.at c.args.out.now c.fits.ensures
-      c.if-fits.true,
-)
-
-pub returns-then-fits : goal.returns-then-fits
-returns-then-fits c = room.put_whole 8 c.args.at c.args.out.now c.fits.ensures (bytes_of 8 c.args.n) (bytes-length 8 c.args.n)
-    c.if-fits.true c.put_be.ensures
-
 pub returns : goal.returns
-returns c = room.put_full 8 c.args.at c.args.out.now c.fits.ensures (bytes_of
-    8 c.args.n) (bytes-length 8 c.args.n) c.if-fits.false
+returns c = c.put_bytes.ensures ∙ ap (put_at c.args.out.now c.args.at) (c.to_be_bytes.ensures ∙ bytes-of_eight c.args.n)

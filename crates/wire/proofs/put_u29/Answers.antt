@@ -16,7 +16,7 @@ put_form-requires c = (
   omega (arith, more_le c.args.n, c.u29_more-k.ensures),
   omega (
     arith,
-    room.room (c.u29_more-k.result + 1) c.args.at c.args.out.now c.fits.ensures c.if-fits.true,
+    room.room (c.u29_more-k.result + 1) c.args.at c.args.out.now c.fits.ensures c.if-not-fits.false,
   ),
 )
 
@@ -27,21 +27,13 @@ overflow_add-result c = omega (
   c.u29_more-k.ensures,
 )
 
-pub overflow_add-result-then-fits : goal.overflow_add-result-then-fits
-overflow_add-result-then-fits c = omega (
-  arith,
-  room.room (c.u29_more-k.result + 1)
-      c.args.at c.args.out.now c.fits.ensures
-      c.if-fits.true,
-)
-
-pub returns-then-fits : goal.returns-then-fits
+pub returns : goal.returns
 unfolding u29
-returns-then-fits c = room.put_whole (c.u29_more-k.result + 1) c.args.at c.args.out.now c.fits.ensures (u29 c.args.n) (u29-length c.args.n
-    ∙ ap (λ (k : ℕ). k + 1) (sym c.u29_more-k.ensures)) c.if-fits.true
+returns c = room.put_whole (c.u29_more-k.result + 1) c.args.at c.args.out.now c.fits.ensures (u29 c.args.n) (u29-length c.args.n
+    ∙ ap (λ (k : ℕ). k + 1) (sym c.u29_more-k.ensures)) c.if-not-fits.false
     (c.put_form.ensures ∙ ap (λ (k : ℕ). sets c.args.out.now c.args.at (form_of k c.args.n))
     c.u29_more-k.ensures)
 
-pub returns : goal.returns
-returns c = room.put_full (c.u29_more-k.result + 1) c.args.at c.args.out.now c.fits.ensures (u29 c.args.n) (u29-length
-    c.args.n ∙ ap (λ (k : ℕ). k + 1) (sym c.u29_more-k.ensures)) c.if-fits.false
+pub returns-then-not-fits : goal.returns-then-not-fits
+returns-then-not-fits c = room.put_full (c.u29_more-k.result + 1) c.args.at c.args.out.now c.fits.ensures (u29 c.args.n) (u29-length
+    c.args.n ∙ ap (λ (k : ℕ). k + 1) (sym c.u29_more-k.ensures)) c.if-not-fits.true

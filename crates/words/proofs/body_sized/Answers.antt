@@ -1,27 +1,22 @@
--- A reference, or an object that is entered.
-use mathlib.Core.Path.{refl, sym, ap, ◌∙◌}
-use Rattle.decide.specs.Outcomes.{done_of}
-use Rattle.format.specs.Step.{body_sized}
-use Rattle.resume.specs.Steps.{after_of}
-use Rattle.resume.proofs.Decided.{gave-entered, stop-entered}
-use Rattle.resume.proofs.Refusals.{refuses}
-use Rattle.words.proofs.Shapes.{size_small}
+-- A reference, or a new value, which enters the objects.
+use Rattle.std.proofs.Common.{sym, ◌∙◌}
+use Rattle.decide.specs.Outcomes.{body_in}
+use Rattle.format.specs.Step.{body_sized, opened}
+use Rattle.resume.proofs.Moves.{stopped_by, after_it}
+use Rattle.words.proofs.Sizes.{size_small}
 use Rattle.words.proofs.body_sized.Goals as goal
 
-pub returns-in_default : goal.returns-in_default
+pub returns-in_err-entered-in-New : goal.returns-in_err-entered-in-New
 unfolding body_sized
-returns-in_default c = λ T U. rw (sym c.size_of-size.ensures ∙ c.in-New.is) (refuses _ _ _ _ _ (c.not_done.ensures _ c.in_default.is)
-    (refl, refl, refl, c.entered-a.auto.objects, refl, refl) ∙ ap (after_of _) (sym (stop-entered _ _ _ _ _ _ _ _ _ _ c.entered-a.ensures _ _ (ap
-    done_of c.in_default.is))))
+returns-in_err-entered-in-New c = rw (sym c.size_of.ensures ∙ c.in-New.is) (stopped_by (λ ts y. opened ts c.args.row (body_in c.args.body) c.in-New.n) c.in_err-entered-in-New.ensures c.from_residual.ensures)
 
-pub open_body-requires : goal.open_body-requires
-open_body-requires c = (c.requires.0, size_small _ _ (sym c.size_of-size.ensures ∙ c.in-New.is) c.requires.1)
+pub open_body-requires-clause-small : goal.open_body-requires-clause-small
+open_body-requires-clause-small c = size_small _ _ (sym c.size_of.ensures ∙ c.in-New.is) c.requires.small
 
 pub returns-in-Old : goal.returns-in-Old
 unfolding body_sized
-returns-in-Old c = λ T U. rw (sym c.size_of-size.ensures ∙ c.in-Old.is) (c.refer.ensures _ T U)
+returns-in-Old c = rw (sym c.size_of.ensures ∙ c.in-Old.is) c.refer.ensures
 
-pub returns-in-Fine : goal.returns-in-Fine
+pub returns-in_ok-entered-in-New : goal.returns-in_ok-entered-in-New
 unfolding body_sized
-returns-in-Fine c = λ T U. rw (sym c.size_of-size.ensures ∙ c.in-New.is) (c.open_body.ensures T _ U ∙ ap (after_of _) (sym (gave-entered _
-    _ _ _ _ _ _ _ _ _ c.entered-a.ensures _ _ _ (ap done_of c.in-Fine.is))))
+returns-in_ok-entered-in-New c = rw (sym c.size_of.ensures ∙ c.in-New.is) (after_it (λ ts y. opened ts c.args.row (body_in c.args.body) c.in-New.n) c.in_ok-entered-in-New.ensures c.open_body.ensures)

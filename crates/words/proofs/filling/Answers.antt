@@ -1,10 +1,12 @@
--- No bytes, or the first.
-use Rattle.resume.proofs.Settled.{same}
-use Rattle.resume.proofs.Amounts.{no_bytes, more_bytes}
+-- No bytes, or some.
+use Rattle.std.proofs.Common.{◌≡◌, rules}
+use Rattle.format.specs.Numbers.{no_work}
+use Rattle.resume.proofs.Moves.{as_is, waits}
+use Rattle.words.proofs.Bodies.{no_bytes, more_bytes, raw_work}
 use Rattle.words.proofs.filling.Goals as goal
 
 pub returns-then-n-eq0 : goal.returns-then-n-eq0
-returns-then-n-eq0 c = λ B T O U. same _ _ _ _ (c.close.ensures B T O U) (no_bytes _ _ _ _ _ _ _ c.requires.1 c.if-n-eq0.true)
+returns-then-n-eq0 c = as_is (λ ts c' m. no_bytes _ _ _ _ _ _ _ c.requires.bytes c.if-n-eq0.true) c.close.ensures
 
 pub returns : goal.returns
-returns c = λ B T O U. more_bytes _ _ _ _ _ _ _ _ _ c.requires.1 c.if-n-eq0.false c.row_work.ensures
+returns c = as_is (λ ts c' m. more_bytes _ _ _ _ _ _ _ c.requires.bytes c.if-n-eq0.false) (waits (let e : c.default.result ≡ no_work = search rules in rw e (raw_work _ _ _ _ c.requires.bytes)))

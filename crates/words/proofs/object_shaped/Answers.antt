@@ -1,41 +1,43 @@
--- A reference, or an object that is entered, by the shape of its trait.
-use mathlib.Core.Path.{refl, sym, ap, ◌∙◌}
-use Rattle.decide.specs.Outcomes.{done_of}
-use Rattle.format.specs.Step.{object_shaped}
-use Rattle.format.specs.Numbers.{use_work, work_of}
-use Rattle.resume.specs.Steps.{after_of}
-use Rattle.resume.proofs.Decided.{gave-entered, stop-entered}
-use Rattle.resume.proofs.Refusals.{refuses}
-use Rattle.resume.proofs.Settled.{waits}
-use Rattle.words.proofs.Shapes.{shape_entered, never-entered}
+-- By what the word says.
+use Rattle.std.proofs.Common.{sym, ◌∙◌}
+use Rattle.format.specs.Decide.{looking, on_rows, old_trait, object_class}
+use Rattle.format.specs.Step.{object_shaped, on, members, wait, at_string, for_external, for_class}
+use Rattle.format.specs.Numbers.{work_of, use_work}
+use Rattle.resume.proofs.Moves.{stopped_by, after_it, waits}
 use Rattle.words.proofs.object_shaped.Goals as goal
 
 pub returns-in-Object : goal.returns-in-Object
 unfolding object_shaped
-returns-in-Object c = λ B T. rw (sym c.shape_of-shape.ensures ∙ c.in-Object.is) (c.refer.ensures B T _)
+returns-in-Object c = rw (sym c.shape_of.ensures ∙ c.in-Object.is) c.refer.ensures
 
-pub returns-in_default-a : goal.returns-in_default-a
-returns-in_default-a c = λ B T. rw (← c.shape_of-shape.ensures) (refuses _ _ _ _ _ (c.not_done.ensures _ c.in_default-a.is)
-    (refl, refl, refl, c.entered-a.auto.objects, refl, refl) ∙ ap (after_of _) (sym (shape_entered _ _ _ _ _ c.in_default.not-Object ∙ stop-entered _ _ _ _ _
-    _ _ _ _ _ c.entered-a.ensures _ _ (ap done_of c.in_default-a.is))))
-
-pub returns-in-Object-shape : goal.returns-in-Object-shape
-returns-in-Object-shape c = λ B T. absurd (never-entered _ _
-    c.in_default.not-Object c.in-Object-shape.is)
-
-pub returns-in-Known : goal.returns-in-Known
+pub returns-in_err-entered-in-Known : goal.returns-in_err-entered-in-Known
 unfolding object_shaped
-returns-in-Known c = λ B T. rw (sym c.shape_of-shape.ensures ∙ c.in-Known.is) (c.object_known.ensures B T _ ∙ ap (after_of _) (sym
-    (gave-entered _ _ _ _ _ _ _ _ _ _ c.entered-a.ensures _ _ _ (ap done_of c.in-Fine.is))))
+returns-in_err-entered-in-Known c =
+    rw (sym c.shape_of.ensures ∙ c.in-Known.is)
+    (stopped_by (λ ts y c' m. on (looking (λ m. old_trait c.in-Known.i m.traits) m c') m (λ t c' m. on (on_rows (object_class c.args.row t) m c') m (λ y. members ts c.args.row t)))
+    c.in_err-entered-in-Known.ensures c.from_residual.ensures)
 
-pub returns-in-External : goal.returns-in-External
-unfolding object_shaped work_of use_work
-returns-in-External c = λ B T. rw (sym c.shape_of-shape.ensures ∙ c.in-External.is) (waits _ _ _ _ _ _ (c.string_work.ensures ∙ rw
-    c.no_trait.ensures) ∙ ap (after_of _) (sym (gave-entered _ _ _ _ _ _ _ _ _ _ c.entered-a.ensures _ _ _ (ap done_of
-    c.in-Fine.is))))
+pub returns-in_ok-entered-in-Known : goal.returns-in_ok-entered-in-Known
+unfolding object_shaped
+returns-in_ok-entered-in-Known c =
+    rw (sym c.shape_of.ensures ∙ c.in-Known.is)
+    (after_it (λ ts y c' m. on (looking (λ m. old_trait c.in-Known.i m.traits) m c') m (λ t c' m. on (on_rows (object_class c.args.row t) m c') m (λ y. members ts c.args.row t)))
+    c.in_ok-entered-in-Known.ensures c.object_known.ensures)
 
-pub returns-in-Inline : goal.returns-in-Inline
+pub returns-in_err-entered-in-External : goal.returns-in_err-entered-in-External
+unfolding object_shaped
+returns-in_err-entered-in-External c = rw (sym c.shape_of.ensures ∙ c.in-External.is) (stopped_by (λ ts y. wait (at_string for_external) ts) c.in_err-entered-in-External.ensures c.from_residual-in_err-entered-in-External.ensures)
+
+pub returns-in_ok-entered-in-External : goal.returns-in_ok-entered-in-External
 unfolding object_shaped work_of use_work
-returns-in-Inline c = λ B T. rw (sym c.shape_of-shape.ensures ∙ c.in-Inline.is) (waits _ _ _ _ _ _ (c.string_work-in-Inline.ensures ∙ rw
-    c.dynamic_trait.ensures) ∙ ap (after_of _) (sym (gave-entered _ _ _ _ _ _ _ _ _ _ c.entered-a.ensures _ _ _ (ap done_of
-    c.in-Fine.is))))
+returns-in_ok-entered-in-External c = rw (sym c.shape_of.ensures ∙ c.in-External.is) (after_it (λ ts y. wait (at_string for_external) ts) c.in_ok-entered-in-External.ensures (waits c.string_work.ensures))
+
+pub returns-in_err-entered-in-Inline : goal.returns-in_err-entered-in-Inline
+unfolding object_shaped
+returns-in_err-entered-in-Inline c = rw (sym c.shape_of.ensures ∙ c.in-Inline.is) (stopped_by (λ ts y. wait (at_string (for_class c.args.row c.in-Inline.n c.in-Inline.dynamic)) ts) c.in_err-entered-in-Inline.ensures c.from_residual-in_err-entered-in-Inline.ensures)
+
+pub returns-in_ok-entered-in-Inline : goal.returns-in_ok-entered-in-Inline
+unfolding object_shaped work_of use_work
+returns-in_ok-entered-in-Inline c =
+    rw (sym c.shape_of.ensures ∙ c.in-Inline.is)
+    (after_it (λ ts y. wait (at_string (for_class c.args.row c.in-Inline.n c.in-Inline.dynamic)) ts) c.in_ok-entered-in-Inline.ensures (waits (rw (c.string_work-in-Inline.ensures, c.of_dynamic.ensures))))

@@ -1,25 +1,29 @@
--- No bytes need none; others are reserved, and the row shows them.
-use mathlib.Core.Path.{refl, sym, ap, ◌∙◌}
-use Rattle.format.specs.Step.{roomy}
-use Rattle.decide.specs.Outcomes.{done_of, text_of}
-use Rattle.resume.proofs.Decided.{gave-reserved, stop-reserved, gave-bodied, stop-bodied}
-use Rattle.resume.proofs.Refusals.{refusals}
-use Rattle.words.proofs.Rooms.{some-room, no-text-there}
+-- No bytes need no room; else room is reserved, and the row shows it.
+use Rattle.std.proofs.Common.{◌≡◌, sym, rules}
+use Rattle.rows.specs.Memory.{no_span}
+use Rattle.format.specs.Decide.{on_rows, bodied}
+use Rattle.format.specs.Step.{on}
+use Rattle.resume.proofs.Moves.{gives_as, gives, gives_not, gives_after, untouched}
+use Rattle.words.proofs.Rooms.{no_room, some-room}
 use Rattle.words.proofs.roomy.Goals as goal
 
 pub returns-then-n-eq0 : goal.returns-then-n-eq0
-unfolding roomy
-returns-then-n-eq0 c = λ B T O U N f l. rw (c.if-n-eq0.true, c.no_span.ensures)
+returns-then-n-eq0 c =
+    let e : c.default.result ≡ no_span = search rules in
+    record { gave = λ k. rw e (sym (no_room _ _ _ _ k c.if-n-eq0.true)); inside = untouched c.args.f.now }
 
-pub returns-in_default : goal.returns-in_default
-returns-in_default c = λ B T O U N f l. no-text-there _ _ _ _ c.in_default.is ∙ sym (some-room _ _ _ _ _ c.if-n-eq0.false ∙
-    stop-reserved _ _ _ _ _ _ _ _ _ (c.reserved-a.ensures _ l) _ _ (ap text_of c.in_default.is))
+pub returns-in_err-p : goal.returns-in_err-p
+returns-in_err-p c =
+    gives_as (λ c' m k. some-room _ _ _ _ _ c.if-n-eq0.false)
+    (gives_not (λ k s c' m. on (on_rows (bodied c.args.row s) m c') m (λ x. k s)) c.in_err-p.ensures c.from_residual.ensures)
 
-pub returns-in_default-b : goal.returns-in_default-b
-returns-in_default-b c = λ B T O U N f l. refusals _ _ _ _ (c.not_done.ensures _ c.in_default-b.is) (c.bodied-b.auto.rows, refl, refl, refl, refl, refl) ∙
-    sym ((some-room _ _ _ _ _ c.if-n-eq0.false ∙ gave-reserved _ _ _ _ _ _ _ _ _ (c.reserved-a.ensures _ l) _ _ _ (ap text_of c.in-Have.is)) ∙
-    stop-bodied _ _ _ _ _ _ _ _ _ _ _ c.bodied-b.ensures _ _ (ap done_of c.in_default-b.is))
+pub returns-in_err-bodied : goal.returns-in_err-bodied
+returns-in_err-bodied c =
+    gives_as (λ c' m k. some-room _ _ _ _ _ c.if-n-eq0.false)
+    (gives_after (λ k s c' m. on (on_rows (bodied c.args.row s) m c') m (λ x. k s)) c.in_ok-p.ensures
+    (gives_not (λ k x. k c.in_ok-p.p) c.in_err-bodied.ensures c.from_residual-in_err-bodied.ensures))
 
 pub returns : goal.returns
-returns c = λ B T O U N f l. sym ((some-room _ _ _ _ _ c.if-n-eq0.false ∙ gave-reserved _ _ _ _ _ _ _ _ _ (c.reserved-a.ensures _ l) _ _ _ (ap text_of
-    c.in-Have.is)) ∙ gave-bodied _ _ _ _ _ _ _ _ _ _ _ c.bodied-b.ensures _ _ _ (ap done_of c.in-Fine.is))
+returns c =
+    gives_as (λ c' m k. some-room _ _ _ _ _ c.if-n-eq0.false)
+    (gives_after (λ k s c' m. on (on_rows (bodied c.args.row s) m c') m (λ x. k s)) c.in_ok-p.ensures (gives c.in_ok-bodied.ensures))

@@ -1,31 +1,28 @@
--- Room for the text, which a string value's row shows at once.
-use native.Mathlib.Omega.{arith}
-use mathlib.Core.Path.{◌≡◌, refl, sym, ap, ◌∙◌}
-use Prim.Native.Nat.{ℕ, ◌<◌}
-use Rattle.decide.specs.Outcomes.{done_of, text_of}
-use Rattle.resume.specs.Steps.{after_of}
-use Rattle.resume.proofs.Decided.{gave-reserved, stop-reserved}
-use Rattle.resume.proofs.Refusals.{refuses}
-use Rattle.resume.proofs.Settled.{waits}
-use Rattle.resume.proofs.Uses.{use_new, use_work-of, gave-reserved-by, stop-reserved-by}
+-- Room for the text, which is next.
+use Rattle.std.proofs.Common.{◌≡◌, ◌-◌, ◌<◌, ℕ, ◌∙◌, arith}
+use Rattle.format.specs.Step.{on, wait, at_text, table_text}
+use Rattle.states.proofs.Purposes.{use_of}
+use Rattle.resume.specs.Steps.{reserved_by}
+use Rattle.resume.proofs.Moves.{as_is, waits, stopped_by, after_it}
+use Rattle.words.proofs.Uses.{use_new, use_work-of}
 use Rattle.words.proofs.string_new.Goals as goal
 
 some : (n : ℕ) → 0 < n → n ≡ 0 → ⊥
 some n h e = omega arith
 
-pub returns-in_default : goal.returns-in_default
-returns-in_default c = λ F T O U N. use_new c.args.w c.requires.0 _ _ _ _ _ _ (some _ c.requires.1) (refuses _ _ _ _ _ (c.no_text.ensures _
-    c.in_default.is) (refl, refl, refl, refl, refl, refl) ∙ ap (after_of _) (sym (stop-reserved _ _ _ _ _ _ _ _ _
-    (c.reserved-a.ensures _ refl) _ _ (ap text_of c.in_default.is))))
+pub returns-in_err-p : goal.returns-in_err-p
+returns-in_err-p c =
+    as_is (λ ts c' m. use_new c.args.w c.requires.used ts c' m c.args.n (some c.args.n c.requires.some))
+    (stopped_by (λ ts s c' m. on (reserved_by c.args.w s m c') m (λ y. wait (at_text (table_text (use_of c.args.w)) s (c.args.n - 1) 0) ts)) c.in_err-p.ensures c.from_residual.ensures)
 
-pub returns-in_default-b : goal.returns-in_default-b
-returns-in_default-b c = λ F T O U N. use_new c.args.w c.requires.0 _ _ _ _ _ _ (some _ c.requires.1) (refuses _ _ _ _ _ (c.not_done.ensures _
-    c.in_default-b.is) (c.reserved_for-b.auto.rows, refl, refl, refl, refl, refl) ∙ ap (after_of _) (sym (stop-reserved-by
-    c.args.w _ _ _ _ _ _ _ _ _ _ c.reserved_for-b.ensures _ _ (ap done_of c.in_default-b.is))) ∙ ap (after_of _) (sym
-    (gave-reserved _ _ _ _ _ _ _ _ _ (c.reserved-a.ensures _ refl) _ _ _ (ap text_of c.in-Have.is))))
+pub returns-in_err-reserved_for : goal.returns-in_err-reserved_for
+returns-in_err-reserved_for c =
+    as_is (λ ts c' m. use_new c.args.w c.requires.used ts c' m c.args.n (some c.args.n c.requires.some))
+    (after_it (λ ts s c' m. on (reserved_by c.args.w s m c') m (λ y. wait (at_text (table_text (use_of c.args.w)) s (c.args.n - 1) 0) ts)) c.in_ok-p.ensures
+    (stopped_by (λ ts y. wait (at_text (table_text (use_of c.args.w)) c.in_ok-p.p (c.args.n - 1) 0) ts) c.in_err-reserved_for.ensures c.from_residual-in_err-reserved_for.ensures))
 
 pub returns : goal.returns
-returns c = λ F T O U N. use_new c.args.w c.requires.0 _ _ _ _ _ _ (some _ c.requires.1) (waits _ _ _ _ _ _ (c.use_work.ensures ∙ use_work-of
-    c.args.w c.requires.0 _ _ _) ∙ ap (after_of _) (sym (gave-reserved-by c.args.w _ _ _ _ _ _ _ _ _ _ c.reserved_for-b.ensures _ _ _
-    (ap done_of c.in-Fine.is))) ∙ ap (after_of _) (sym (gave-reserved _ _ _ _ _ _ _ _ _ (c.reserved-a.ensures _ refl) _ _ _ (ap
-    text_of c.in-Have.is))))
+returns c =
+    as_is (λ ts c' m. use_new c.args.w c.requires.used ts c' m c.args.n (some c.args.n c.requires.some))
+    (after_it (λ ts s c' m. on (reserved_by c.args.w s m c') m (λ y. wait (at_text (table_text (use_of c.args.w)) s (c.args.n - 1) 0) ts)) c.in_ok-p.ensures
+    (after_it (λ ts y. wait (at_text (table_text (use_of c.args.w)) c.in_ok-p.p (c.args.n - 1) 0) ts) c.in_ok-reserved_for.ensures (waits (c.use_work.ensures ∙ use_work-of c.args.w c.requires.used _ _ _))))

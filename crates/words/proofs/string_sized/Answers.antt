@@ -1,27 +1,26 @@
--- A string of the table, the empty one, or a new one.
-use mathlib.Core.Path.{refl, sym, ap, ◌∙◌}
-use Rattle.decide.specs.Outcomes.{text_of}
-use Rattle.format.specs.Step.{string_sized}
-use Rattle.resume.specs.Steps.{after_of}
-use Rattle.resume.proofs.Decided.{gave-old-text, stop-old-text}
-use Rattle.resume.proofs.Refusals.{refuses}
-use Rattle.resume.proofs.Uses.{use_had, use_old}
+-- A text that was read before, an empty one, or a new one.
+use Rattle.std.proofs.Common.{◌≡◌, sym, ◌∙◌, rules}
+use Rattle.rows.specs.Memory.{no_span}
+use Rattle.format.specs.Step.{had, string_sized}
+use Rattle.states.proofs.Purposes.{use_of}
+use Rattle.resume.proofs.Moves.{as_is, stopped_by, after_it}
+use Rattle.resume.proofs.Uses.{use_had}
+use Rattle.words.proofs.Uses.{use_old}
 use Rattle.words.proofs.string_sized.Goals as goal
 
-pub returns-in_default : goal.returns-in_default
-returns-in_default c = λ O. rw (sym c.size_of-size.ensures ∙ c.in-Old.is) (use_old c.args.w c.requires.1 _ _ _ _ _ _ (refuses _ _ _ _ _
-    (c.no_text.ensures _ c.in_default.is) (refl, refl, refl, refl, refl, refl) ∙ ap (after_of _) (sym (stop-old-text _ _ _ _ _ _ _
-    _ _ c.old_text-a.ensures _ _ (ap text_of c.in_default.is)))))
+pub returns-in_err-p-in-Old : goal.returns-in_err-p-in-Old
+returns-in_err-p-in-Old c =
+    rw (sym c.size_of.ensures ∙ c.in-Old.is)
+    (as_is (λ ts c' m. use_old c.args.w c.requires.used ts c' m c.in-Old.i) (stopped_by (λ ts s. had ts (use_of c.args.w) s) c.in_err-p-in-Old.ensures c.from_residual.ensures))
 
-pub returns-then-k-eq0 : goal.returns-then-k-eq0
+pub returns-in_ok-p-in-Old : goal.returns-in_ok-p-in-Old
+returns-in_ok-p-in-Old c =
+    rw (sym c.size_of.ensures ∙ c.in-Old.is)
+    (as_is (λ ts c' m. use_old c.args.w c.requires.used ts c' m c.in-Old.i)
+    (after_it (λ ts s. had ts (use_of c.args.w) s) c.in_ok-p-in-Old.ensures (as_is (λ ts c' m. use_had c.args.w c.requires.used ts c' m c.in_ok-p-in-Old.p) c.had.ensures)))
+
+pub returns-in-New-eq0 : goal.returns-in-New-eq0
 unfolding string_sized
-returns-then-k-eq0 c = λ O. rw (sym c.size_of-size.ensures ∙ c.in-New.is, c.if-k-eq0.true) (rw c.no_span.ensures at (c.had-then-k-eq0.ensures
-    c.args.strings.now O))
-
-pub returns-in-Have : goal.returns-in-Have
-returns-in-Have c = λ O. rw (sym c.size_of-size.ensures ∙ c.in-Old.is) (use_old c.args.w c.requires.1 _ _ _ _ _ _ (use_had c.args.w
-    c.requires.1 _ _ _ _ _ _ (c.had.ensures _ O) ∙ ap (after_of _) (sym (gave-old-text _ _ _ _ _ _ _ _ _ c.old_text-a.ensures _ _ _ (ap
-    text_of c.in-Have.is)))))
-
-pub returns-else-k-eq0 : goal.returns-else-k-eq0
-returns-else-k-eq0 c = λ O. rw (sym c.size_of-size.ensures ∙ c.in-New.is) (c.string_new.ensures _ _ O _ _)
+returns-in-New-eq0 c =
+    let e : c.default.result ≡ no_span = search rules in
+    rw (sym c.size_of.ensures ∙ c.in-New-eq0.is, c.in-New-eq0.field-0-test) (rw e at c.had-in-New-eq0.ensures)

@@ -1,12 +1,14 @@
-use Rattle.writer.proofs.Outcomes as outcomes
+use borrow.Author.Rules.{rules}
+use mathlib.Core.Path.{refl}
 use Rattle.rows.specs.Memory.{open_limit}
+use Rattle.writer.proofs.Outcomes as outcomes
 use Rattle.writer.proofs.write_root.Goals as goal
 
-pub returns-in_default : goal.returns-in_default
+pub returns-in-Err : goal.returns-in-Err
 unfolding open_limit
-returns-in_default c = outcomes.measure_not _ _ _ c.requires c.write_value-measured.ensures c.in_default.is (c.unwritten.ensures _ _
-    c.in_default.is)
+returns-in-Err c = outcomes.measure_not _ _ _ c.requires c.in-Err.ensures.runs c.refusal.ensures (search rules)
 
 pub returns : goal.returns
 unfolding open_limit
-returns c = outcomes.written_is _ _ _ c.requires c.write_value-measured.ensures c.in-At.is c.write_value.ensures
+returns c =
+    outcomes.written_is _ _ _ c.requires c.in_default.ensures.runs refl refl c.in_default.ensures.same.table c.value-2.ensures.runs (search rules)

@@ -1,0 +1,15 @@
+-- The trait, the row's class, and the names.
+use Rattle.std.proofs.Common.{sym}
+use Rattle.format.specs.Step.{had, naming}
+use Rattle.resume.proofs.Moves.{as_here, stopped_by, after_it}
+use Rattle.resume.proofs.Feeding.class_there.Goals as goal
+
+pub returns-in_err-object_class : goal.returns-in_err-object_class
+unfolding had
+returns-in_err-object_class c =
+    as_here (stopped_by (λ ts y. naming ts c.args.row c.trait_of-t.result c.args.n) c.in_err-object_class.ensures c.from_residual.ensures) (rw (sym c.trait_of-t.ensures))
+
+pub returns : goal.returns
+unfolding had
+returns c =
+    as_here (after_it (λ ts y. naming ts c.args.row c.trait_of-t.result c.args.n) c.in_ok-object_class.ensures c.naming.ensures) (rw (sym c.trait_of-t.ensures))

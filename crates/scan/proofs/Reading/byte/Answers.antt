@@ -1,0 +1,10 @@
+-- What the message gives, and the cursor behind it.
+use mathlib.Core.Path.{refl}
+use Rattle.std.proofs.lemmas.Result.{err_from_is_err_and}
+use Rattle.scan.proofs.Reading.byte.Goals as goal
+
+pub returns-in_err-b : goal.returns-in_err-b
+returns-in_err-b c = let p = err_from_is_err_and c.from_residual.result c.from_residual.ensures.1 in rw (p.1, p.2) (record { read = c.in_err-b.ensures _; same = (refl, (refl, refl)) })
+
+pub returns : goal.returns
+returns c = (record { read = c.in_ok-b.ensures _; same = (refl, (refl, refl)) })

@@ -1,0 +1,12 @@
+-- The decision, on the loan that it writes.
+use mathlib.Core.Path.{refl}
+use Rattle.std.proofs.lemmas.Result.{err_from_is_err_and}
+use Rattle.scan.proofs.Does.{does_numbered}
+use Rattle.scan.proofs.Laws.{rows-long}
+use Rattle.scan.proofs.Reading.numbered.Goals as goal
+
+pub returns-in_err-self : goal.returns-in_err-self
+returns-in_err-self c = let p = err_from_is_err_and c.from_residual.result c.from_residual.ensures.1 in rw (p.1, p.2) (record { read = does_numbered _ _ _ _ _ _ _ _ _ _ _ _ c.in_err-self.ensures; same = (refl, (refl, rows-long _ _ _ _ _ _ _ c.numbered.auto.rows)) })
+
+pub returns : goal.returns
+returns c = (record { read = does_numbered _ _ _ _ _ _ _ _ _ _ _ _ c.in_ok-self.ensures; same = (refl, (refl, rows-long _ _ _ _ _ _ _ c.numbered.auto.rows)) })
