@@ -345,6 +345,7 @@ pub fn weak(b: usize) -> usize
     usize::from(b == 1)
 }
 
+// A row's flag.
 pub fn flagged(rows: &mut [usize], c: Cursor, row: usize, flag: usize) -> Result<Cursor, Refusal>
     ensures { with1 (done_of result) rows.new ≡ leaving rows.old (d.flagged row flag rows.old c) }
 {
@@ -391,6 +392,7 @@ pub fn key_end(rows: &[usize], c: Cursor, row: usize, done: usize) -> Result<(),
     Err(lost())
 }
 
+// The bytes of an entry.
 pub fn width_of(w: Width) -> usize
     ensures { result ≡ d.width_of (width_in w) }
 {

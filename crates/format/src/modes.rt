@@ -1,5 +1,5 @@
 // What the next byte of a reading that waits is of.
-// Numbers, not an enum: C lends the state, and any number in it has an answer (`apart-lost`).
+// Numbers, not an enum: C lends the state, and any number in it has an answer (`apart-lost` of promises/proofs/Demands).
 
 pub const MARKER: usize = 1;
 

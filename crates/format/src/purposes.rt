@@ -1,5 +1,5 @@
 // Whose the next byte is. An integer's word and a double's bytes have one number, and so have an object's word and a date's bytes.
-// Numbers, not an enum: C lends the state, and any number in it has an answer (`apart-lost`).
+// Numbers, not an enum: C lends the state, and any number in it has an answer (`apart-lost` of promises/proofs/Demands).
 
 pub const INTEGER: usize = 1;
 

@@ -1,5 +1,5 @@
 // What an open value still has to read.
-// Numbers, not an enum: C lends the state, and any number in it has an answer (`apart-lost`).
+// Numbers, not an enum: C lends the state, and any number in it has an answer (`apart-lost` of promises/proofs/Demands).
 
 pub const PAIRS: usize = 1;
 

@@ -16,9 +16,9 @@ use lines::Tally;
 use std::io;
 use wire::Part;
 
-// A test of a line gets what stands behind the line's name. It tells whether the answer that stands there is right, or None where a word is missing.
-
 // ---- the words of a line
+
+// A test of a line gets what stands behind the line's name. It tells whether the answer that stands there is right, or None where a word is missing.
 
 // Whether `rest` is what stands from `at` to the line's end.
 fn rest_is(line: &[u8], at: usize, rest: &[u8]) -> bool {

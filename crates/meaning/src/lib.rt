@@ -1,4 +1,4 @@
-// What the definitions mean, as laws on them: proofs/Meaning.antt and others. There is no code here.
+// What the definitions mean, as laws on them: proofs/Meaning.antt and others. The one function is no code of the library: a crate has to have one.
 
 #![tactic(auto)]
 

@@ -5,7 +5,7 @@ use mathlib.Core.List.{List, [], ◌∷◌, ◌++◌}
 use Prim.Native.Nat.{ℕ, zero, suc, ◌+◌, ◌-◌, ◌/◌, ◌^◌, ◌≤◌, ◌<◌}
 use native.Mathlib.Nat.{zero-add, add-zero}
 use native.Mathlib.Omega.{arith}
-use borrow.Author.Tests.{le-leb, lt-ltb, lt-leb, eq-eqb, ne_eqb, eqb-true, eqb-false}
+use borrow.Author.Tests.{le-leb, lt-ltb, lt-leb, ne_eqb, eqb-true, eqb-false}
 use lib.Dec.{eqb}
 use lib.ListN.{length, set}
 use lib.Seq.{sets, set-set}
@@ -13,11 +13,10 @@ use Rattle.rows.specs.declared.Cursor.{Cursor}
 use Rattle.rows.specs.declared.Span.{Span}
 use Rattle.rows.specs.Memory.{Memory, memory, message_limit, put, row_used, col_count, row_width}
 use Rattle.utf8.specs.States.{step_of, fold_of}
-use Rattle.wire.specs.Put.{with1}
 use Rattle.format.specs.declared.Head.{Head}
 use Rattle.rows.specs.declared.lent.Lent.{Lent}
 use Rattle.format.specs.declared.Work.{Work}
-use Rattle.format.specs.Decide.{Out, stop, give, width_of, grown}
+use Rattle.format.specs.Decide.{give, width_of, grown}
 use Rattle.format.specs.Reading.{taken}
 use Rattle.format.specs.Step.{assoc, dynamics, for_string, for_key, for_class, for_external, for_name, for_vector, Text, xml_text, table_text}
 use Rattle.format.specs.Step.{Raw, byte_array, raw_vector, raw_row, Mode, at_text, at_raw, wait, step, act, filling, raw_grown}
@@ -30,8 +29,7 @@ use Rattle.format.proofs.Shows.{good-sound, good-waits}
 use Rattle.wire.proofs.Octets.{Bytes}
 use Rattle.states.specs.Ends.{has_ended}
 use Rattle.format.proofs.Stores.{place, stored_there}
-use Rattle.decide.specs.Outcomes.{leaving}
-use Rattle.resume.specs.Steps.{loans_of, Same, Decides, decided, grown_by, Turn, Wait, after, after_of, settled}
+use Rattle.resume.specs.Steps.{loans_of, Same, Decides, decided, grown_by, Wait, after, after_of, settled}
 use Rattle.states.specs.Purposes.{IsRaw}
 use Rattle.states.proofs.Frames.{length-frames, laid-frames}
 use Rattle.states.proofs.Purposes.{between, purposed, text_of, raw_of}

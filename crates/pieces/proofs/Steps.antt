@@ -1,4 +1,4 @@
--- One byte on every state: what has ended stays, and what has not goes on as its answer says.
+-- One byte on a state that has not ended: it goes on as its answer says.
 use mathlib.Core.Path.{◌≡◌, refl, sym, ap, ◌∙◌}
 use mathlib.Core.Bool.{Bool, true, false, cond, ◌&&◌, ◌||◌}
 use mathlib.Core.List.{List}
@@ -21,9 +21,9 @@ use Rattle.format.proofs.Tests.{clash, both}
 use Rattle.format.specs.declared.Refusal.{Refusal}
 use Rattle.resume.specs.declared.Next.{Next}
 use Rattle.resume.specs.declared.Next.TheVariants as next
-use Rattle.resume.specs.Steps.{turn_of, Turn, Refused, After, after, after_of, settled, refusal_of}
+use Rattle.resume.specs.Steps.{turn_of, Refused, After, after, after_of, settled, refusal_of}
 use Rattle.states.proofs.Frames.{length-frames}
-use Rattle.pieces.specs.States.{numbers, state_after, head_of, held_of, further}
+use Rattle.pieces.specs.States.{numbers, state_after, held_of, further}
 use Rattle.states.specs.Ends.{has_ended}
 use Rattle.pieces.proofs.Going.{Going, act-going}
 use Rattle.format.specs.Codes.{status_waiting, status_finished, status_refused}
@@ -34,19 +34,6 @@ fourth : (p q r s t u v : Bool) → (p && q && r && s && t && u && v) ≡ true �
 fourth p q r s t u v e = (both (p && q && r) s (both (p && q && r && s) t (both (p && q && r && s && t) u (both (p && q && r && s && t && u) v e).0).0).0).1
 
 module _ (b : ℕ) (h : Head) (F : List ℕ) (m : Memory) where
-  pub stays : has_ended h ≡ true → held (numbers h F) m ≡ byte_step b (held (numbers h F) m)
-  unfolding has_ended byte_step state_of
-  stays e = by (eqb h.status status_waiting) (eqb h.status status_finished && finishable h.cursor) (eqb h.status status_refused && refusals.sayable h.number h.told h.place) e
-    where
-      by : (t u v : Bool) → cond t false (u || v) ≡ true
-          → held (numbers h F) m
-          ≡ stepped (numbers h F) m b (cond t (wait (mode_of h.work) (frames_of F h.depth) h.cursor m)
-          (cond u (over (finished h.cursor m)) (cond v (over (refused h.number h.told h.place m)) (none m))))
-      by true u v e = clash cc
-      by false true v e = refl
-      by false false true e = refl
-      by false false false e = clash cc
-
   pub goes : has_ended h ≡ false → byte_step b (held (numbers h F) m) ≡ after_step (numbers h F) (state_after b h F m)
   unfolding has_ended byte_step state_of state_after
   goes e = by (eqb h.status status_waiting) (eqb h.status status_finished && finishable h.cursor) (eqb h.status status_refused && refusals.sayable h.number h.told h.place) e
@@ -80,10 +67,6 @@ module _ (b : ℕ) (h : Head) (F : List ℕ) (m : Memory) where
 
   pub byte-held : (x : After) → has_ended h ≡ false → x ≡ after_of F (state_after b h F m) → held_of h.lent x ≡ byte_step b (held (numbers h F) m)
   byte-held x n p = ap (held_of h.lent) p ∙ told-alike (state_after b h F m) after-going ∙ sym (goes n)
-
-  pub goes_on : (F' : List ℕ) (m' m'' : Memory) (a : Turn) (h' : Head) → has_ended h ≡ false → settled (after a F' m') ≡ after_of F (state_after b h F m)
-      → after a F' m'' ≡ settled (after a F' m') → h' ≡ head_of h.lent a → held (numbers h' F') m'' ≡ byte_step b (held (numbers h F) m)
-  goes_on F' m' m'' a h' n p q r = ap (λ (k : Head). held (numbers k F') m'') r ∙ byte-held (after a F' m'') n (q ∙ p)
 
   -- ---- the answers of a state that has not ended
 

@@ -92,31 +92,6 @@ pub fn head_after(lent: Lent, a: Result<Next, Refusal>, cursor: Cursor, depth: u
     }
 }
 
-// One byte on any state. What has ended stays as it is, and its loans untouched.
-pub fn step(h: Head, frames: &mut Frames, loans: &mut Loans, b: u8) -> Head
-    ensures held { held (numbers result frames.new) (memory_of loans.new) ≡ byte_step b (held (numbers h frames.old) (memory_of loans.old)) }
-    ensures same { SameLoans loans.old loans.new }
-{
-    if states::has_ended(h) {
-        return h;
-    }
-    let mut f = Feeding {
-        frames: &mut *frames,
-        depth: h.depth,
-        rows: &mut *loans.rows,
-        store: &mut *loans.store,
-        strings: &mut *loans.strings,
-        objects: &mut *loans.objects,
-        traits: &mut *loans.traits,
-        names: &mut *loans.names,
-        cursor: h.cursor,
-    };
-    let a = next(h, &mut f, b);
-    let head = head_after(h.lent, a, f.cursor, f.depth);
-    settle(loans, a);
-    head
-}
-
 // ---- a piece
 
 // The head after a piece, and the bytes taken.
@@ -161,6 +136,7 @@ fn fill(f: &mut Feeding, w: Work, bytes: &[u8]) -> Work
     }
     let mut last = w;
     last.left = past.left + 1;
+    // The row is used, so that this refuses nothing.
     let _ = step::raw_grown(f, last);
     past
 }
@@ -242,4 +218,12 @@ pub fn run(h: Head, frames: &mut Frames, loans: &mut Loans, piece: &[u8]) -> Ran
     let head = head_after(h.lent, a, f.cursor, f.depth);
     settle(loans, a);
     Ran { head, taken }
+}
+
+// One byte on any state. What has ended stays as it is, and its loans untouched.
+pub fn step(h: Head, frames: &mut Frames, loans: &mut Loans, b: u8) -> Head
+    ensures held { held (numbers result frames.new) (memory_of loans.new) ≡ byte_step b (held (numbers h frames.old) (memory_of loans.old)) }
+    ensures same { SameLoans loans.old loans.new }
+{
+    run(h, frames, loans, &[b]).head
 }

@@ -63,7 +63,7 @@ pub fn write(table: Table, out: &mut [u8]) -> Written
 }
 
 // The text of a row: a part of the store, or of the default where the row has none.
-pub fn text<'a>(table: Table<'a>, row: usize, default: &'a [u8]) -> &'a [u8]
+pub fn text<'s>(table: Table<'_, 's>, row: usize, default: &'s [u8]) -> &'s [u8]
     ensures { TextContract result.now table.entry.rows.now table.entry.store.now row default.now }
 {
     text::text(table, row, default)

@@ -1,4 +1,4 @@
-// The demands as theorems on the definitions: proofs/Demands.antt. There is no code here.
+// The demands as theorems on the definitions: proofs/Demands.antt. The one function is no code of the library: a crate has to have one.
 
 #![tactic(auto)]
 

@@ -88,9 +88,10 @@ abbrev pub decided : {A : Type 0} → Result A Refusal → Feeding → Out Memor
 decided (Ok a) f' = give a (loans_of f') f'.cursor
 decided (Err r) f' = stop r.number r.told r.place
 
--- its answer is the decision d
+-- its answer is the decision d; where that refuses, the loans and the cursor are as they were
 pub record Decides {A : Type 0} (x : Result A Refusal) (f f' : Feeding) (d : Decision A) : Type 0 where
   pub gave : decided x f' ≡ d (loans_of f) f.cursor
+  pub refused : (r : Refusal) → x ≡ Err r → (loans_of f' ≡ loans_of f) × (f'.cursor ≡ f.cursor)
   pub inside : Inside f f'
 
 -- a task's value is finished

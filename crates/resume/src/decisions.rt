@@ -1,11 +1,11 @@
 // The decisions of a reading that is fed, on its own loans and cursor: each is the definition of the same name, and moves the cursor.
 // The cursor is read into a variable first where a loan is lent: behind `self` it can't be read meanwhile.
-// They stand beside those of `scan`: the contracts differ (`Decides`, `Reads`), and of a `&mut` struct a call can't be lent two fields.
+// They stand beside those of `scan`: the contracts differ (`Decides`, `Reads`), and one function over both would need two fields of a `&mut` struct lent
+// to one call, which the check refuses.
 
 #![tactic(auto)]
 
-ghost use Rattle.std.specs.Prelude.{◌≡◌, ◌+◌, ◌^◌, ◌<◌, IsOk};
-ghost use Rattle.wire.specs.Put.{with1};
+ghost use Rattle.std.specs.Prelude.{◌+◌, ◌^◌, ◌<◌, IsOk};
 ghost use Rattle.format.specs.Decide as d;
 ghost use Rattle.decide.specs.Outcomes.{old_object, width_in};
 ghost use Rattle.resume.specs.Steps.{Decides};

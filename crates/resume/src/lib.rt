@@ -25,8 +25,8 @@ pub const NUMBER_MORE: usize = 7;
 
 // ---- a reading that is fed
 
-// The frames of the open values, `depth` of them open; the loans; and the cursor. The loans stand one by one, and not as a `Loans`: of references in a struct within
-// this one no proof knew what became of them.
+// The frames of the open values, `depth` of them open; the loans; and the cursor. The loans stand one by one, and not as a `Loans`: what the
+// references of a struct within this one hold in the end, no proof could tell.
 #[derive(Drop)]
 pub struct Feeding<'f, 'l> {
     pub frames: &'f mut Frames,
@@ -113,7 +113,7 @@ fn marker_work(key: Key) -> Work
 impl Feeding<'_, '_> {
     // ---- frames
 
-    // What the value that `depth` others are around still has to read.
+    // What the innermost open value still has to read; `depth` others are around it.
     fn innermost(&self) -> Frame
         requires { self.now.depth < open_most }
         ensures { result ≡ frame_at self.now.frames.now self.now.depth }

@@ -1,5 +1,5 @@
 // The kinds of rows.
-// Numbers, not an enum: C lends the rows, and a row of any kind has an answer (`test-says`).
+// Numbers, not an enum: C lends the rows, and a row of any kind has an answer (`test-says` of promises/proofs/Demands).
 
 pub const UNDEFINED: usize = 1;
 

@@ -96,12 +96,12 @@ impl Loans<'_> {
 
 // Rows and the store that their spans lie in, lent to be read.
 #[derive(Clone, Copy)]
-pub struct Table<'a> {
-    pub rows: &'a [usize],
-    pub store: &'a [u8],
+pub struct Table<'r, 's> {
+    pub rows: &'r [usize],
+    pub store: &'s [u8],
 }
 
-impl Table<'_> {
+impl Table<'_, '_> {
     // The loan that refusal 1 names, if there is one.
     pub fn fault(self) -> Option<usize>
         ensures { result ≡ named_loan (rows_fault self.entry.rows.now self.entry.store.now) }

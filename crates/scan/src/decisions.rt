@@ -1,5 +1,6 @@
 // The decisions on a reading's loans: each is the decision of its name, and moves the cursor.
-// They stand beside those of `resume`: the contracts differ (`Reads`, `Decides`), and of a `&mut` struct a call can't be lent two fields.
+// They stand beside those of `resume`: the contracts differ (`Reads`, `Decides`), and one function over both would need two fields of a `&mut` struct lent
+// to one call, which the check refuses.
 ghost use Rattle.std.specs.Prelude.{◌≡◌, ◌+◌, ◌^◌, ◌<◌, IfOk};
 ghost use Rattle.decide.specs.Outcomes.{answer_in, old_object, width_in};
 ghost use Rattle.format.specs.Decide as d;

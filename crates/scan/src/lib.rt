@@ -16,7 +16,8 @@ use format::Refusal;
 use rows::{Cursor, Lent, Span};
 use wire::Size;
 
-// A reading in work: the message, the loans, and what is taken and used of them.
+// A reading in work: the message, the loans, and what is taken and used of them. The loans stand one by one, with `lent` and `clear` of their own: what the
+// references of a `Loans` within this struct hold in the end, no proof could tell.
 #[derive(Drop)]
 pub struct Reading<'m, 'l> {
     pub message: &'m [u8],

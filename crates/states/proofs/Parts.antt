@@ -1,5 +1,5 @@
 -- Numbers that a word or eight bytes have in the making are those of which the next byte doesn't go astray.
-use mathlib.Core.Path.{◌≡◌, refl, sym}
+use mathlib.Core.Path.{◌≡◌, refl}
 use mathlib.Core.Bool.{Bool, true, false, cond}
 use Prim.Native.Nat.{ℕ, ◌*◌, ◌-◌, ◌^◌}
 use lib.Dec.{leb, ltb}

@@ -3,7 +3,7 @@
 #![tactic(auto)]
 
 ghost use Rattle.std.specs.Prelude.{◌≡◌, false, ◌&&◌, List, ℕ, ◌+◌, ◌^◌, leb, ltb};
-ghost use Rattle.rows.specs.Memory.{Memory, open_limit, span_used};
+ghost use Rattle.rows.specs.Memory.{Memory, open_limit};
 ghost use Rattle.format.specs.Codes.{mode_marker, mode_word, mode_number, mode_flag, mode_text, mode_raw};
 ghost use Rattle.format.specs.Numbers.{lent_of, frames_of, mode_of, with_use, with_word};
 ghost use Rattle.format.specs.Numbers as n;

@@ -14,7 +14,7 @@ use Rattle.format.specs.Decide.{on_rows, flagged, fixed, weak}
 use Rattle.format.specs.Step.{State, wait, on, broken, onward, keys_of, at_string, for_vector, filling, flag_done}
 use Rattle.format.specs.Numbers.{with_flag, with_raw}
 use Rattle.format.specs.Codes.{purpose_object_vector, purpose_dictionary}
-use Rattle.states.specs.Purposes.{IsFlag, IsRaw}
+use Rattle.states.specs.Purposes.{IsFlag}
 use Rattle.states.proofs.Purposes.{between, purposed}
 
 -- what comes after a fixed flag: a vector's class, or the bytes of a raw vector

@@ -1,17 +1,17 @@
 -- A marker that gave a row: one more value may be open.
-use mathlib.Core.Path.{◌≡◌, ap, ◌∙◌, sym}
+use mathlib.Core.Path.{◌≡◌}
 use mathlib.Core.Bool.{Bool, true, false, cond}
 use mathlib.Core.List.{List}
 use Prim.Native.Nat.{ℕ, zero, suc, ◌-◌, ◌/◌, ◌<◌}
 use native.Mathlib.Omega.{arith}
 use lib.Dec.{ltb}
 use lib.ListN.{length}
-use Rattle.std.specs.Prelude.{Result, Ok}
+use Rattle.std.specs.Prelude.{Ok}
 use Rattle.rows.specs.declared.Cursor.{Cursor}
 use Rattle.rows.specs.declared.Key.{Key}
 use Rattle.rows.specs.Memory.{Memory, memory, row_width, open_limit}
 use Rattle.format.specs.declared.Frame.{Frame}
-use Rattle.format.specs.Decide.{Out, give, marker, lost, refuse, on_rows, lift, kind_of}
+use Rattle.format.specs.Decide.{give, marker, lost, refuse, on_rows, lift, kind_of}
 use Rattle.format.specs.Step.{at_marker, on, shown, begun, act}
 use Rattle.format.specs.Refusals as refusals
 use Rattle.resume.specs.declared.Feeding.{Feeding}

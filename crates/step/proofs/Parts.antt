@@ -1,5 +1,5 @@
 -- A byte of a word or of eight bytes, for the one thing that its work is of.
-use mathlib.Core.Path.{◌≡◌, sym, ap, ◌∙◌}
+use mathlib.Core.Path.{◌≡◌, ◌∙◌}
 use mathlib.Core.List.{List}
 use Prim.Native.Nat.{ℕ, ◌+◌, ◌*◌, ◌-◌, ◌^◌, ◌<◌}
 use native.Mathlib.Omega.{arith}
@@ -15,7 +15,7 @@ use Rattle.wire.proofs.U29.{Step, step, astray, fourth, last, more}
 use Rattle.wire.proofs.Digits.{before_small}
 use Rattle.format.specs.declared.Frame.{Frame}
 use Rattle.format.specs.declared.Work.{Work}
-use Rattle.format.specs.Step.{State, wait, broken, at_word, at_number, worded, number_done, act, on_part}
+use Rattle.format.specs.Step.{wait, broken, at_word, at_number, worded, number_done, act, on_part}
 use Rattle.format.specs.Numbers.{no_work, work_of, with_word, with_number}
 use Rattle.states.specs.Purposes.{IsWord, IsNumber}
 use Rattle.states.proofs.Purposes.{word_of, words, number_of, numbers}

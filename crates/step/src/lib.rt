@@ -170,7 +170,7 @@ fn number_byte(f: &mut Feeding, w: Work, b: u8) -> Result<Next, Refusal>
 
 // ---- markers
 
-// The purpose of a size word. Not From: neither type is of this crate.
+// The purpose of a size word. Not From: a bare number would not say that it is a purpose.
 #[tactic(auto, unfolding(format::specs::Numbers::body_purpose))]
 fn purpose_of(body: Body) -> usize
     ensures { result ≡ body_purpose (body_in body) }

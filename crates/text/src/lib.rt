@@ -21,11 +21,11 @@ pub fn has_text(kind: usize) -> bool
 
 // A reference stands for its target, another row for itself.
 #[tactic(auto, unfolding(format::specs::Unfold::home))]
-pub fn home_of(table: Table, row: usize) -> usize
-    ensures { result ≡ home table.entry.rows.now row }
+pub fn home_of(rows: &[usize], row: usize) -> usize
+    ensures { result ≡ home rows.now row }
 {
-    if table.column(row, columns::KIND) == kinds::REFERENCE {
-        table.column(row, columns::NUMBER)
+    if rows::column(rows, row, columns::KIND) == kinds::REFERENCE {
+        rows::column(rows, row, columns::NUMBER)
     } else {
         row
     }
@@ -38,7 +38,7 @@ fn answering(table: Table, row: usize) -> Option<usize>
     if table.fault().is_some() {
         return None;
     }
-    Some(home_of(table, row))
+    Some(home_of(table.rows, row))
 }
 
 // The row has text, and its span lies in the store.
@@ -72,7 +72,7 @@ pub fn clip(store: &[u8], s: Span) -> &[u8]
 
 // The text of a row: a part of the store, or the default where the row has none.
 #[tactic(auto, unfolding(format::specs::Text::text_or))]
-pub fn text<'a>(table: Table<'a>, row: usize, default: &'a [u8]) -> &'a [u8]
+pub fn text<'s>(table: Table<'_, 's>, row: usize, default: &'s [u8]) -> &'s [u8]
     ensures { result.now ≡ text_or table.entry.rows.now table.entry.store.now row default.now }
 {
     let Some(s) = span(table, row) else {

@@ -89,6 +89,7 @@ pub fn u29_more(n: usize) -> usize
     3
 }
 
+// The form of `n` with `k` bytes before the last: seven bits in each, and in the last one seven, or eight where it is the fourth.
 fn put_form(out: &mut [u8], at: usize, n: usize, k: usize)
     requires { (k ≤ 3) × (at + k < length out.old) }
     ensures { out.new ≡ sets out.old at (form_of k n) }
@@ -122,6 +123,7 @@ pub enum Size {
     New(usize),
 }
 
+// What a size word says: its last bit tells a length from a reference.
 pub fn size_of(w: usize) -> Size
     ensures { result ≡ size_of w }
 {
@@ -131,7 +133,8 @@ pub fn size_of(w: usize) -> Size
     Size::New(w >> 1usize)
 }
 
-// An object by number; a new one of a known trait, of an externalizable class, or of a trait with so many names, dynamic (1) or not.
+// An object by number; a new one of a known trait, of an externalizable class, or of a trait with so many names, dynamic (1) or not: that is a number since a trait's
+// entry, which C lends, has it so.
 #[derive(Clone, Copy, PartialEq, Eq)]
 pub enum Shape {
     Object(usize),
@@ -140,6 +143,7 @@ pub enum Shape {
     Inline(usize, usize),
 }
 
+// What an object word says, by its last four bits.
 pub fn shape_of(w: usize) -> Shape
     ensures { result ≡ shape_of w }
 {

@@ -305,7 +305,7 @@ fn object_shaped(f: &mut Feeding, row: usize, w: usize) -> Result<Next, Refusal>
 
 // ---- words
 
-// What a size word is of, by its purpose. Not From: neither type is of this crate.
+// What a size word is of, by its purpose. Not From: a bare number would not say that it is a purpose.
 fn body_for(purpose: usize) -> Body
     ensures { body_in result ≡ with_body d.xml purpose (λ b. b) }
 {

@@ -93,7 +93,7 @@ fn row_after(table: Table, first: usize, n: usize) -> usize
 }
 
 // The body of a row, as far as it is there.
-fn body(table: Table<'_>, j: usize) -> &[u8]
+fn body<'s>(table: Table<'_, 's>, j: usize) -> &'s [u8]
     ensures { result.now ≡ body_of table.entry.rows.now table.entry.store.now j }
 {
     text::clip(table.store, table.body(j))
@@ -102,7 +102,7 @@ fn body(table: Table<'_>, j: usize) -> &[u8]
 // Rows, and the output that their bytes go into from `at` on; a dry run only counts them.
 #[derive(Drop)]
 struct Writer<'a> {
-    table: Table<'a>,
+    table: Table<'a, 'a>,
     out: &'a mut [u8],
     at: usize,
     dry: bool,
@@ -414,7 +414,7 @@ impl Writer<'_> {
         if left == 0 {
             return Err(Stop::TooDeep);
         }
-        let j = text::home_of(self.table, i);
+        let j = text::home_of(self.table.rows, i);
         match self.table.column(j, columns::KIND) {
             kinds::ARRAY => self.array(j, left - 1),
             kinds::OBJECT => self.object(j, left - 1),
@@ -444,7 +444,7 @@ fn write_root(table: Table, out: &mut [u8]) -> Written
     let size = writer.at;
     writer.at = 0;
     writer.dry = false;
-    // `run` gives the same place to a run that is dry and to one that is not: this one ends at `size` as well.
+    // `run` of specs/Run gives the same place to a run that is dry and to one that is not: this one ends at `size` as well.
     let _ = writer.value(0, OPEN_LIMIT);
     Ok(size)
 }

@@ -1,10 +1,9 @@
 -- A copy, and the text test or the count over it.
 use native.Mathlib.Omega.{arith}
-use mathlib.Core.Path.{refl}
 use Rattle.std.proofs.Common.{rules}
 use Rattle.rows.specs.Memory.{message_limit}
 use Rattle.rows.specs.Lent.{lent_of}
-use Rattle.pieces.proofs.Fills.{Copied, fills-text, fills-raw}
+use Rattle.pieces.proofs.Fills.{fills-text, fills-raw}
 use Rattle.pieces.proofs.fill.Goals as goal
 
 pub overflow_add-f : goal.overflow_add-f

@@ -1,8 +1,8 @@
 -- Never begun, not sound, or the byte's.
-use mathlib.Core.Path.{refl, sym, ap, ◌∙◌}
+use mathlib.Core.Path.{refl}
 use mathlib.Core.List.{[]}
 use Rattle.format.specs.Numbers.{lent_of}
-use Rattle.resume.specs.Steps.{loans_of, after_of}
+use Rattle.resume.specs.Steps.{loans_of}
 use Rattle.resume.proofs.Moves.{kept}
 use Rattle.pieces.proofs.Steps.{never-begun, not_sound, stepped-on, deep-enough}
 use Rattle.pieces.proofs.next.Goals as goal

@@ -1,5 +1,5 @@
 -- The first byte ends it, or others follow.
-use mathlib.Core.Path.{refl, ap, ◌∙◌}
+use mathlib.Core.Path.{ap, ◌∙◌}
 use Rattle.std.specs.Prelude.{Ok}
 use Rattle.pieces.proofs.Drives.{took_over, took_not, took_ready, took_first}
 use Rattle.pieces.proofs.take.Goals as goal

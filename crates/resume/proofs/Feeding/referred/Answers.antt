@@ -10,13 +10,14 @@ returns-in_err-object c =
     let p = err_from_is_err_and c.from_residual.result c.from_residual.ensures.1 in
     record {
       gave = rw (p.1, p.2) (refers_not c.args.row _ _ _ c.in_err-object.ensures.gave);
+      refused = search rules;
       inside = c.in_err-object.ensures.inside;
     }
 
 pub returns-in_err-self : goal.returns-in_err-self
 unfolding lent_of
-returns-in_err-self c = record { gave = rw (refers c.args.row _ _ _ _ c.in_ok-object.ensures.gave) (search rules); inside = search rules }
+returns-in_err-self c = record { gave = rw (refers c.args.row _ _ _ _ c.in_ok-object.ensures.gave) (search rules); refused = search rules; inside = search rules }
 
 pub returns : goal.returns
 unfolding lent_of
-returns c = record { gave = rw (refers c.args.row _ _ _ _ c.in_ok-object.ensures.gave) (search (rules, wrote)); inside = search rules }
+returns c = record { gave = rw (refers c.args.row _ _ _ _ c.in_ok-object.ensures.gave) (search (rules, wrote)); refused = search rules; inside = search rules }
