@@ -144,7 +144,7 @@ fn print_row<R: Print>(rt: &R, table: Table, row: usize) -> io::Result<()> {
     println!(rt; " end {}", r.end)
 }
 
-// ---- the listing
+// ---- the listing. No contract can say what standard output gets; what a line has is said of `value_of`, `told_of` and Display
 
 // A finished reading: what is used and taken, then the first `n` rows.
 pub fn print_finished<R: Print>(
