@@ -118,13 +118,14 @@ impl From<Span> for Key {
     }
 }
 
-// `bytes` to `dst`, from `at` on.
+// `bytes` to `dst`, from `at` on. By a loop: `copy_from_slice` is a call of `memmove`, which C callers would have to bring, and slower for a few bytes.
 pub fn copy(dst: &mut [u8], at: usize, bytes: &[u8])
     requires { at + length bytes.now ≤ length dst.old }
     ensures { dst.new ≡ sets dst.old at bytes.now }
 {
-    let end = at + bytes.len();
-    dst[at..end].copy_from_slice(bytes);
+    for i in 0..bytes.len() {
+        dst[at + i] = bytes[i];
+    }
 }
 
 // ---- rows
