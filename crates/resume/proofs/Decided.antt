@@ -1,9 +1,13 @@
 -- A decision on a loan, by the answer of its function and the loan that this left.
-use Rattle.std.proofs.Common.{◌≡◌, Result, Ok, Err, List, ℕ, refl, sym, ap, ◌∙◌}
+use Rattle.std.proofs.Common.{◌≡◌, Result, Ok, Err, Bool, true, false, cond, List, ℕ, leb, ltb, length, refl, sym, ap, ◌∙◌, arith}
 use Rattle.rows.specs.declared.Cursor.{Cursor}
-use Rattle.rows.specs.Memory.{Memory, memory}
+use Rattle.rows.specs.declared.Span.{Span}
+use Rattle.rows.specs.Memory.{Memory, memory, row_used, span_used}
 use Rattle.wire.specs.Put.{With1, with1}
-use Rattle.format.specs.Decide.{Out, stop, give, lift, on_rows, referred}
+use Rattle.wire.specs.Sign.{integer_of, column_of}
+use Rattle.wire.specs.Date.{refused_date}
+use Rattle.format.specs.Decide.{Out, stop, give, lift, on_rows, referred, Width}
+use Rattle.format.specs.Decide.{closed, numbered, integer_end, date_end, flagged, counted, grown, stored}
 use Rattle.format.specs.declared.Refusal.{Refusal}
 use Rattle.decide.specs.Outcomes.{leaving, done_of, out_of, answer_in, old_object, referred_to}
 use Rattle.decide.proofs.References.{unnamed, named-object}
@@ -33,6 +37,54 @@ pub wrote_out : {A : Type 0} (to : List ℕ → Memory) (R R' : List ℕ) (r : R
     → r ≡ Ok (a, c) → with1 (out_of r) R' ≡ leaving R x → give a (to R') c ≡ lift to x
 unfolding lifted
 wrote_out to R R' r x a c p e = ap (λ r. lifted to (with1 (out_of r) R')) (sym p) ∙ ap (lifted to) e ∙ alike to R x
+
+-- ---- one that leaves the cursor as it is
+
+-- where it gives anything, the cursor is c
+abbrev Keeps : {S A : Type 0} → Cursor → Out S A → Type 0
+Keeps c (stop n told place) = Unit
+Keeps c (give a s c') = c' ≡ c
+
+keeps_if : {S A : Type 0} (c : Cursor) (b : Bool) (x y : Out S A) → Keeps c x → Keeps c y → Keeps c (cond b x y)
+keeps_if c true x y p q = p
+keeps_if c false x y p q = q
+
+kept_by : (R R' : List ℕ) (x : Out (List ℕ) Unit) (c c' : Cursor) → Keeps c x → with1 (give (tt {0}) (tt {0}) c') R' ≡ leaving R x → c' ≡ c
+kept_by R R' (stop n told place) c c' k e = absurd (let z : ◌≡◌ {A = ℕ} 0 1 = cc in omega arith)
+kept_by R R' (give a s d) c c' k e = let p : c' ≡ d = cc in p ∙ k
+
+module _ (R R' : List ℕ) (c c' : Cursor) where
+  pub closed_still : (row : ℕ) → with1 (give (tt {0}) (tt {0}) c') R' ≡ leaving R (closed row R c) → c' ≡ c
+  unfolding closed
+  closed_still row = kept_by R R' (closed row R c) c c' (keeps_if c (row_used R c row) _ _ refl tt)
+
+  pub numbered_still : (row n : ℕ) → with1 (give (tt {0}) (tt {0}) c') R' ≡ leaving R (numbered row n R c) → c' ≡ c
+  unfolding numbered
+  numbered_still row n = kept_by R R' (numbered row n R c) c c' (keeps_if c (row_used R c row) _ _ refl tt)
+
+  pub integer_still : (row w : ℕ) → with1 (give (tt {0}) (tt {0}) c') R' ≡ leaving R (integer_end row w R c) → c' ≡ c
+  unfolding integer_end
+  integer_still row w = numbered_still row (column_of (integer_of w))
+
+  pub date_still : (row bits : ℕ) → with1 (give (tt {0}) (tt {0}) c') R' ≡ leaving R (date_end row bits R c) → c' ≡ c
+  unfolding date_end numbered
+  date_still row bits = kept_by R R' (date_end row bits R c) c c' (keeps_if c (row_used R c row) _ _ (keeps_if c (refused_date bits) _ _ tt (keeps_if c (row_used R c row) _ _ refl tt)) tt)
+
+  pub flagged_still : (row flag : ℕ) → with1 (give (tt {0}) (tt {0}) c') R' ≡ leaving R (flagged row flag R c) → c' ≡ c
+  unfolding flagged
+  flagged_still row flag = kept_by R R' (flagged row flag R c) c c' (keeps_if c (row_used R c row) _ _ refl tt)
+
+  pub counted_still : (row col done : ℕ) → with1 (give (tt {0}) (tt {0}) c') R' ≡ leaving R (counted row col done R c) → c' ≡ c
+  unfolding counted
+  counted_still row col done = kept_by R R' (counted row col done R c) c c' (keeps_if c (leb c.rows done) _ _ tt (keeps_if c (row_used R c row) _ _ refl tt))
+
+  pub grown_still : (row : ℕ) (w : Width) (p : Span) (n : ℕ) → with1 (give (tt {0}) (tt {0}) c') R' ≡ leaving R (grown row w p n R c) → c' ≡ c
+  unfolding grown
+  grown_still row w p n = kept_by R R' (grown row w p n R c) c c' (keeps_if c (row_used R c row) _ _ refl tt)
+
+  pub stored_still : (p : Span) (n b : ℕ) → with1 (give (tt {0}) (tt {0}) c') R' ≡ leaving R (stored p n b R c) → c' ≡ c
+  unfolding stored
+  stored_still p n b = kept_by R R' (stored p n b R c) c c' (keeps_if c (ltb (length R) c.store) _ _ tt (keeps_if c (leb p.size n) _ _ tt (keeps_if c (span_used c p) _ _ refl tt)))
 
 -- ---- one that only looks
 

@@ -1,6 +1,6 @@
 -- What a function of a reading that is fed answers, by what it calls: a decision first, and then the rest; or it waits, is finished, or refuses.
-use Rattle.std.proofs.Common.{◌≡◌, Result, Ok, Err, List, ◌∷◌, ◌+◌, ◌*◌, length, refl, sym, ap, ◌∙◌, add-one}
-use Rattle.std.specs.Result.{IsErr, IsErrAnd}
+use Rattle.std.proofs.Common.{◌≡◌, Result, Ok, Err, List, ◌∷◌, ℕ, ◌+◌, ◌*◌, length, refl, sym, ap, ◌∙◌, add-one, cond}
+use Rattle.std.specs.Result.{IsErr, IsErrAnd, is_err}
 use Rattle.std.proofs.lemmas.Result.{err_from_is_err_and}
 use lib.Seq.{sets}
 use Rattle.rows.specs.declared.Cursor.{Cursor}
@@ -17,7 +17,7 @@ use Rattle.format.specs.Numbers.{frames_of, frame_width, frame_numbers, work_of}
 use Rattle.resume.specs.declared.Feeding.{Feeding}
 use Rattle.resume.specs.declared.Next.{Next}
 use Rattle.resume.specs.declared.Next.TheVariants.{Wait, Finished}
-use Rattle.resume.specs.Steps.{loans_of, after_of, settled, Same, Steps, Goes, Inside, Decides, Gives, ended}
+use Rattle.resume.specs.Steps.{is_waiting, loans_of, after_of, settled, Same, Steps, Goes, Inside, Decides, Gives, ended}
 use Rattle.states.proofs.Frames.{length-frames, laid-frames, laid_next}
 
 -- loans of the same lengths are the same, zeroed
@@ -73,6 +73,20 @@ pub stopped_by : {A : Type 0} {x : Result Next Refusal} {f g : Feeding} {d : Dec
 unfolding settled after_of
 stopped_by {x = x} {f = f} {g = g} {y = y} k D q =
     record { turn = rw (failed x y q, D.inside.frames, ← D.gave, same_zeroed (loans_of f) (loans_of g) D.inside.same.1); same = D.inside.same }
+
+-- a refusal's cursor is no part of it, nor the number of open values where nothing waits: it stands where they are put back
+pub puts_back : {x y : Result Next Refusal} {f g h : Feeding} {s : List Frame → Cursor → Memory → State} (c : Cursor) (n : ℕ) → y ≡ x
+    → h ≡ record g { cursor = cond (is_err x) c g.cursor; depth = cond (is_waiting x) g.depth n } → Steps x f g s → Steps y f h s
+puts_back {x = Ok (Wait w)} c n p q S = rw (p, q) S
+puts_back {x = Ok Finished} c n p q S = rw (p, q) (record { turn = S.turn; same = S.same })
+puts_back {x = Err r} c n p q S = rw (p, q) (record { turn = S.turn; same = S.same })
+
+-- and where the number alone is
+pub reopens : {x y : Result Next Refusal} {f g h : Feeding} {s : List Frame → Cursor → Memory → State} (n : ℕ) → y ≡ x
+    → h ≡ record g { depth = cond (is_waiting x) g.depth n } → Steps x f g s → Steps y f h s
+reopens {x = Ok (Wait w)} n p q S = rw (p, q) S
+reopens {x = Ok Finished} n p q S = rw (p, q) (record { turn = S.turn; same = S.same })
+reopens {x = Err r} n p q S = rw (p, q) (record { turn = S.turn; same = S.same })
 
 -- ---- a decision that gives, and then the rest
 

@@ -1,5 +1,5 @@
 -- What a function of a reading that is fed answers, as the definition has it: the next state beside its frames and the loans.
-use Rattle.std.specs.Prelude.{◌≡◌, cond, Result, Ok, Err, List, [], ◌∷◌, ℕ, eqb, length}
+use Rattle.std.specs.Prelude.{◌≡◌, cond, Result, Ok, Err, IsErr, List, [], ◌∷◌, ℕ, eqb, length, Bool, true, false}
 use types.Run.{OneOf}
 use Rattle.rows.specs.declared.Cursor.{Cursor}
 use Rattle.rows.specs.declared.Span.{Span}
@@ -71,6 +71,16 @@ pub record Steps (x : Result Next Refusal) (f f' : Feeding) (s : List Frame → 
       settled (after (turn_of x f'.cursor f'.depth) f'.frames.now (loans_of f'))
       ≡ after_of f.frames.now (s (frames_of f.frames.now f.depth) f.cursor (loans_of f))
   pub same : Same f f'
+
+-- an answer that waits
+abbrev pub is_waiting : Result Next Refusal → Bool
+is_waiting (Ok (next.Wait w)) = true
+is_waiting (Ok next.Finished) = false
+is_waiting (Err r) = false
+
+-- a refusal leaves the cursor and the number of open values as they were, and the end of the value in no other leaves that number
+abbrev pub Back : Result Next Refusal → Feeding → Feeding → Type 0
+Back x f f' = (IsErr x → (f'.cursor ≡ f.cursor) × (f'.depth ≡ f.depth)) × (x ≡ Ok next.Finished → f'.depth ≡ f.depth)
 
 -- the same of one after which as many values are open, unless it waits
 pub record Goes (x : Result Next Refusal) (f f' : Feeding) (s : List Frame → Cursor → Memory → State) : Type 0 where

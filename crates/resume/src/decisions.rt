@@ -5,10 +5,11 @@
 
 #![tactic(auto)]
 
-ghost use Rattle.std.specs.Prelude.{◌+◌, ◌^◌, ◌<◌, IsOk};
+ghost use Rattle.std.specs.Prelude.{◌≡◌, ◌+◌, ◌^◌, ◌<◌, IsOk};
+ghost use Rattle.decide.specs.Spared.{NoLoan, OnlyNames, OnlyObjects, OnlyRows, OnlyStore, OnlyStrings, OnlyTraits};
 ghost use Rattle.format.specs.Decide as d;
 ghost use Rattle.decide.specs.Outcomes.{old_object, width_in};
-ghost use Rattle.resume.specs.Steps.{Decides};
+ghost use Rattle.resume.specs.Steps.{Decides, loans_of};
 
 use crate::Feeding;
 use decide::Width;
@@ -20,7 +21,8 @@ impl Feeding<'_, '_> {
 
     // A marker where `left` values may still open: its row.
     pub fn marker(&mut self, key: Key, left: usize, b: usize) -> Result<usize, Refusal>
-        ensures { Decides result self.old self.new (d.on_rows (d.marker key left b)) }
+        ensures decided { Decides result self.old self.new (d.on_rows (d.marker key left b)) }
+        ensures spares { OnlyRows (loans_of self.old) (loans_of self.new) }
     {
         let cursor = self.cursor;
         let (row, c) = decide::marker(self.rows, cursor, key, left, b)?;
@@ -30,7 +32,9 @@ impl Feeding<'_, '_> {
 
     // A row ends where the rows now end.
     pub fn closed(&mut self, row: usize) -> Result<(), Refusal>
-        ensures { Decides result self.old self.new (d.on_rows (d.closed row)) }
+        ensures decided { Decides result self.old self.new (d.on_rows (d.closed row)) }
+        ensures spares { OnlyRows (loans_of self.old) (loans_of self.new) }
+        ensures still { self.new.cursor ≡ self.old.cursor }
     {
         let cursor = self.cursor;
         self.cursor = decide::closed(self.rows, cursor, row)?;
@@ -39,7 +43,9 @@ impl Feeding<'_, '_> {
 
     // A double's bits are whole, and its row ends.
     pub fn numbered(&mut self, row: usize, bits: usize) -> Result<(), Refusal>
-        ensures { Decides result self.old self.new (d.on_rows (d.numbered row bits)) }
+        ensures decided { Decides result self.old self.new (d.on_rows (d.numbered row bits)) }
+        ensures spares { OnlyRows (loans_of self.old) (loans_of self.new) }
+        ensures still { self.new.cursor ≡ self.old.cursor }
     {
         let cursor = self.cursor;
         self.cursor = decide::numbered(self.rows, cursor, row, bits)?;
@@ -48,7 +54,9 @@ impl Feeding<'_, '_> {
 
     // An integer's U29 is whole, and its row ends.
     pub fn integer_end(&mut self, row: usize, w: usize) -> Result<(), Refusal>
-        ensures { Decides result self.old self.new (d.on_rows (d.integer_end row w)) }
+        ensures decided { Decides result self.old self.new (d.on_rows (d.integer_end row w)) }
+        ensures spares { OnlyRows (loans_of self.old) (loans_of self.new) }
+        ensures still { self.new.cursor ≡ self.old.cursor }
     {
         let cursor = self.cursor;
         self.cursor = decide::integer_end(self.rows, cursor, row, w)?;
@@ -57,7 +65,9 @@ impl Feeding<'_, '_> {
 
     // A date's eight bytes are whole, and its row ends.
     pub fn date_end(&mut self, row: usize, bits: usize) -> Result<(), Refusal>
-        ensures { Decides result self.old self.new (d.on_rows (d.date_end row bits)) }
+        ensures decided { Decides result self.old self.new (d.on_rows (d.date_end row bits)) }
+        ensures spares { OnlyRows (loans_of self.old) (loans_of self.new) }
+        ensures still { self.new.cursor ≡ self.old.cursor }
     {
         let cursor = self.cursor;
         self.cursor = decide::date_end(self.rows, cursor, row, bits)?;
@@ -66,7 +76,8 @@ impl Feeding<'_, '_> {
 
     // The row's body.
     pub fn bodied(&mut self, row: usize, p: Span) -> Result<(), Refusal>
-        ensures { Decides result self.old self.new (d.on_rows (d.bodied row p)) }
+        ensures decided { Decides result self.old self.new (d.on_rows (d.bodied row p)) }
+        ensures spares { OnlyRows (loans_of self.old) (loans_of self.new) }
     {
         let cursor = self.cursor;
         self.cursor = decide::bodied(self.rows, cursor, row, p)?;
@@ -75,7 +86,8 @@ impl Feeding<'_, '_> {
 
     // An object's class.
     pub fn object_class(&mut self, row: usize, t: Trait) -> Result<(), Refusal>
-        ensures { Decides result self.old self.new (d.on_rows (d.object_class row t)) }
+        ensures decided { Decides result self.old self.new (d.on_rows (d.object_class row t)) }
+        ensures spares { OnlyRows (loans_of self.old) (loans_of self.new) }
     {
         let cursor = self.cursor;
         self.cursor = decide::object_class(self.rows, cursor, row, t)?;
@@ -84,7 +96,8 @@ impl Feeding<'_, '_> {
 
     // A vector's class: `*` is none.
     pub fn vector_class(&mut self, row: usize, star: bool, p: Span) -> Result<(), Refusal>
-        ensures { Decides result self.old self.new (d.on_rows (d.vector_class row star p)) }
+        ensures decided { Decides result self.old self.new (d.on_rows (d.vector_class row star p)) }
+        ensures spares { OnlyRows (loans_of self.old) (loans_of self.new) }
     {
         let cursor = self.cursor;
         self.cursor = decide::vector_class(self.rows, cursor, row, star, p)?;
@@ -93,7 +106,9 @@ impl Feeding<'_, '_> {
 
     // The row's flag.
     pub fn flagged(&mut self, row: usize, flag: usize) -> Result<(), Refusal>
-        ensures { Decides result self.old self.new (d.on_rows (d.flagged row flag)) }
+        ensures decided { Decides result self.old self.new (d.on_rows (d.flagged row flag)) }
+        ensures spares { OnlyRows (loans_of self.old) (loans_of self.new) }
+        ensures still { self.new.cursor ≡ self.old.cursor }
     {
         let cursor = self.cursor;
         self.cursor = decide::flagged(self.rows, cursor, row, flag)?;
@@ -104,6 +119,8 @@ impl Feeding<'_, '_> {
     pub fn counted(&mut self, row: usize, col: usize, done: usize) -> Result<(), Refusal>
         ensures decided { Decides result self.old self.new (d.on_rows (d.counted row col done)) }
         ensures fewer { IsOk result → done + 1 < 2 ^ 64 }
+        ensures spares { OnlyRows (loans_of self.old) (loans_of self.new) }
+        ensures still { self.new.cursor ≡ self.old.cursor }
     {
         let cursor = self.cursor;
         self.cursor = decide::counted(self.rows, cursor, row, col, done)?;
@@ -119,7 +136,9 @@ impl Feeding<'_, '_> {
 
     // `n` bytes of a raw vector are still to come.
     pub fn grown(&mut self, row: usize, w: Width, p: Span, n: usize) -> Result<(), Refusal>
-        ensures { Decides result self.old self.new (d.on_rows (d.grown row (width_in w) p n)) }
+        ensures decided { Decides result self.old self.new (d.on_rows (d.grown row (width_in w) p n)) }
+        ensures spares { OnlyRows (loans_of self.old) (loans_of self.new) }
+        ensures still { self.new.cursor ≡ self.old.cursor }
     {
         let cursor = self.cursor;
         self.cursor = decide::grown(self.rows, cursor, row, w, p, n)?;
@@ -137,7 +156,8 @@ impl Feeding<'_, '_> {
 
     // Room for `n` bytes is reserved before they come.
     pub fn reserved(&mut self, n: usize) -> Result<Span, Refusal>
-        ensures { Decides result self.old self.new (d.looking (λ m. d.reserved n m.store)) }
+        ensures decided { Decides result self.old self.new (d.looking (λ m. d.reserved n m.store)) }
+        ensures spares { NoLoan (loans_of self.old) (loans_of self.new) }
     {
         let cursor = self.cursor;
         let (p, c) = decide::reserved(self.store.len(), cursor, n)?;
@@ -147,7 +167,9 @@ impl Feeding<'_, '_> {
 
     // A byte of a span, `n` more to come after it.
     pub fn stored(&mut self, p: Span, n: usize, b: u8) -> Result<(), Refusal>
-        ensures { Decides result self.old self.new (d.on_store (d.stored p n b)) }
+        ensures decided { Decides result self.old self.new (d.on_store (d.stored p n b)) }
+        ensures spares { OnlyStore (loans_of self.old) (loans_of self.new) }
+        ensures still { self.new.cursor ≡ self.old.cursor }
     {
         let cursor = self.cursor;
         self.cursor = decide::stored(self.store, cursor, p, n, b)?;
@@ -163,7 +185,8 @@ impl Feeding<'_, '_> {
 
     // A text's last byte, where it enters the strings.
     pub fn text_end(&mut self, p: Span, valid: bool) -> Result<Span, Refusal>
-        ensures { Decides result self.old self.new (d.on_strings (d.text_end p valid)) }
+        ensures decided { Decides result self.old self.new (d.on_strings (d.text_end p valid)) }
+        ensures spares { OnlyStrings (loans_of self.old) (loans_of self.new) }
     {
         let cursor = self.cursor;
         let (q, c) = decide::text_end(self.strings, cursor, p, valid)?;
@@ -175,7 +198,8 @@ impl Feeding<'_, '_> {
 
     // `row` enters the objects.
     pub fn entered(&mut self, row: usize) -> Result<(), Refusal>
-        ensures { Decides result self.old self.new (d.on_objects (d.entered row)) }
+        ensures decided { Decides result self.old self.new (d.on_objects (d.entered row)) }
+        ensures spares { OnlyObjects (loans_of self.old) (loans_of self.new) }
     {
         let cursor = self.cursor;
         self.cursor = decide::entered(self.objects, cursor, row)?;
@@ -191,7 +215,8 @@ impl Feeding<'_, '_> {
 
     // `row` becomes a reference to object `i`.
     pub fn referred(&mut self, row: usize, i: usize) -> Result<(), Refusal>
-        ensures { Decides result self.old self.new (λ m. d.on_rows (d.referred row i m.objects) m) }
+        ensures decided { Decides result self.old self.new (λ m. d.on_rows (d.referred row i m.objects) m) }
+        ensures spares { OnlyRows (loans_of self.old) (loans_of self.new) }
     {
         let object = self.old_object(i)?;
         let cursor = self.cursor;
@@ -208,7 +233,8 @@ impl Feeding<'_, '_> {
 
     // A trait is entered after its last name.
     pub fn trait_end(&mut self, t: Trait) -> Result<(), Refusal>
-        ensures { Decides result self.old self.new (d.on_traits (d.trait_end t)) }
+        ensures decided { Decides result self.old self.new (d.on_traits (d.trait_end t)) }
+        ensures spares { OnlyTraits (loans_of self.old) (loans_of self.new) }
     {
         let cursor = self.cursor;
         self.cursor = decide::trait_end(self.traits, cursor, t)?;
@@ -217,7 +243,8 @@ impl Feeding<'_, '_> {
 
     // A field name's span, as it is read.
     pub fn named(&mut self, p: Span) -> Result<Span, Refusal>
-        ensures { Decides result self.old self.new (d.on_names (d.named p)) }
+        ensures decided { Decides result self.old self.new (d.on_names (d.named p)) }
+        ensures spares { OnlyNames (loans_of self.old) (loans_of self.new) }
     {
         let cursor = self.cursor;
         let (q, c) = decide::named(self.names, cursor, p)?;

@@ -5,15 +5,16 @@
 
 mod decisions;
 
-ghost use Rattle.std.specs.Prelude.{◌≡◌, ◌∷◌, Ok, suc, ◌+◌, ◌*◌, ◌<◌};
+ghost use Rattle.std.specs.Prelude.{◌≡◌, ◌∷◌, Ok, suc, ◌+◌, ◌*◌, ◌<◌, is_err, if◌then◌else◌};
 ghost use Rattle.std.proofs.lemmas.List.Edits.{sets};
 ghost use Rattle.rows.specs.Memory.{open_most, no_span};
+ghost use Rattle.decide.specs.Spared.{NoLoan, OnlyMembers, OnlyMembersText, OnlyRows};
 ghost use Rattle.format.specs.Decide as d;
 ghost use Rattle.format.specs.Step as s;
 ghost use Rattle.format.specs.Numbers.{frame_at, frame_width, frame_numbers, work_of, work, no_trait, with_use, with_text};
 ghost use Rattle.format.specs.Codes.{mode_word, task_members};
 ghost use Rattle.states.specs.Purposes.{IsText};
-ghost use Rattle.resume.specs.Steps.{Steps, Goes, Enters, Listed, ended};
+ghost use Rattle.resume.specs.Steps.{Steps, Back, is_waiting, Goes, Enters, Listed, ended, loans_of};
 
 use format::{FRAME_WIDTH, Frame, Frames, Refusal, Work, modes, purposes, refusals, tasks};
 use rows::{Cursor, Key, Span, Trait, columns};
@@ -82,15 +83,18 @@ fn put_frame(frames: &mut Frames, i: usize, f: Frame)
 
 // ---- the work of a mode
 
-// A string is next: whose it is, without what its use holds beside the row.
-pub fn string_work(purpose: usize, row: usize) -> Work
-    ensures { result ≡ work mode_word purpose row 3 0 no_span no_trait 0 0 }
+// A string is next: whose it is, and what its use holds beside the row.
+pub fn string_work(purpose: usize, row: usize, kind: Trait, count: usize, done: usize) -> Work
+    ensures { result ≡ work mode_word purpose row 3 0 no_span kind count done }
 {
     Work {
         mode: modes::WORD,
         purpose,
         row,
         left: WORD_MORE,
+        kind,
+        count,
+        done,
         ..Work::default()
     }
 }
@@ -121,11 +125,48 @@ impl Feeding<'_, '_> {
         frame_at(self.frames, self.depth)
     }
 
+    // ---- a refusal
+
+    // A refusal puts the cursor back to this, and where nothing waits the number of open values is this again.
+    pub fn put_back(
+        &mut self,
+        cursor: Cursor,
+        depth: usize,
+        a: Result<Next, Refusal>,
+    ) -> Result<Next, Refusal>
+        ensures answer { result ≡ a }
+        ensures back { self.new ≡ record self.old { cursor = (if is_err a then cursor else self.old.cursor); depth = (if is_waiting a then self.old.depth else depth) } }
+    {
+        match a {
+            Ok(Next::Wait(_)) => {}
+            Ok(Next::Finished) => self.depth = depth,
+            Err(_) => {
+                self.cursor = cursor;
+                self.depth = depth;
+            }
+        }
+        a
+    }
+
+    // Where nothing waits the number of open values is this again.
+    fn reopened(&mut self, depth: usize, a: Result<Next, Refusal>) -> Result<Next, Refusal>
+        ensures answer { result ≡ a }
+        ensures back { self.new ≡ record self.old { depth = (if is_waiting a then self.old.depth else depth) } }
+    {
+        if !matches!(a, Ok(Next::Wait(_))) {
+            self.depth = depth;
+        }
+        a
+    }
+
     // ---- tasks
 
     // The row ends, and its value is finished.
     fn finish(&mut self, row: usize) -> Result<Next, Refusal>
-        ensures { Goes result self.old self.new (λ ts c m. s.on (d.on_rows (d.closed row) m c) m (λ y. ended)) }
+        ensures goes { Goes result self.old self.new (λ ts c m. s.on (d.on_rows (d.closed row) m c) m (λ y. ended)) }
+        ensures spares { OnlyRows (loans_of self.old) (loans_of self.new) }
+        ensures still { self.new.cursor ≡ self.old.cursor }
+        ensures back { Back result self.old self.new }
     {
         self.closed(row)?;
         Ok(Next::Finished)
@@ -134,7 +175,9 @@ impl Feeding<'_, '_> {
     // A value is next, with the frame of the one around it.
     fn open_next(&mut self, f: Frame, key: Key) -> Next
         requires { self.old.depth < open_most }
-        ensures { Goes (Ok result) self.old self.new (λ ts. s.wait (s.at_marker key) (f ∷ ts)) }
+        ensures goes { Goes (Ok result) self.old self.new (λ ts. s.wait (s.at_marker key) (f ∷ ts)) }
+        ensures spares { NoLoan (loans_of self.old) (loans_of self.new) }
+        ensures still { self.new.cursor ≡ self.old.cursor }
     {
         put_frame(self.frames, self.depth, f);
         self.depth += 1;
@@ -145,7 +188,10 @@ impl Feeding<'_, '_> {
     fn go_entries(&mut self, f: Frame) -> Result<Next, Refusal>
         requires open { self.old.depth < open_most }
         requires listed { Listed f.task }
-        ensures { Goes result self.old self.new (λ ts. s.go ended ts (s.task_of f)) }
+        ensures goes { Goes result self.old self.new (λ ts. s.go ended ts (s.task_of f)) }
+        ensures spares { OnlyRows (loans_of self.old) (loans_of self.new) }
+        ensures still { self.new.cursor ≡ self.old.cursor }
+        ensures back { Back result self.old self.new }
     {
         if f.left == 0 {
             return self.finish(f.row);
@@ -163,13 +209,22 @@ impl Feeding<'_, '_> {
     fn go_members(&mut self, f: Frame) -> Result<Next, Refusal>
         requires open { self.old.depth < open_most }
         requires members { f.task ≡ task_members }
-        ensures { Goes result self.old self.new (λ ts. s.go ended ts (s.task_of f)) }
+        ensures goes { Goes result self.old self.new (λ ts. s.go ended ts (s.task_of f)) }
+        ensures spares { OnlyRows (loans_of self.old) (loans_of self.new) }
+        ensures still { self.new.cursor ≡ self.old.cursor }
+        ensures back { Back result self.old self.new }
     {
         if f.left == 0 {
             if f.dynamic == 0 {
                 return self.finish(f.row);
             }
-            return Ok(Next::Wait(string_work(purposes::DYNAMIC_KEY, f.row)));
+            return Ok(Next::Wait(string_work(
+                purposes::DYNAMIC_KEY,
+                f.row,
+                Trait::default(),
+                0,
+                0,
+            )));
         }
         if !wire::fits(self.cursor.names, f.first, f.done) {
             return Err(decide::lost());
@@ -183,18 +238,26 @@ impl Feeding<'_, '_> {
     // A task goes on with what it has left.
     fn go(&mut self, f: Frame) -> Result<Next, Refusal>
         requires { self.old.depth < open_most }
-        ensures { Goes result self.old self.new (λ ts. s.go ended ts (s.task_of f)) }
+        ensures goes { Goes result self.old self.new (λ ts. s.go ended ts (s.task_of f)) }
+        ensures spares { OnlyRows (loans_of self.old) (loans_of self.new) }
+        ensures still { self.new.cursor ≡ self.old.cursor }
+        ensures back { Back result self.old self.new }
     {
         match f.task {
-            tasks::PAIRS => Ok(Next::Wait(Work {
-                count: f.left,
-                done: f.done,
-                ..string_work(purposes::KEY, f.row)
-            })),
-            tasks::DYNAMICS => Ok(Next::Wait(Work {
-                done: f.done,
-                ..string_work(purposes::DYNAMIC_KEY, f.row)
-            })),
+            tasks::PAIRS => Ok(Next::Wait(string_work(
+                purposes::KEY,
+                f.row,
+                Trait::default(),
+                f.left,
+                f.done,
+            ))),
+            tasks::DYNAMICS => Ok(Next::Wait(string_work(
+                purposes::DYNAMIC_KEY,
+                f.row,
+                Trait::default(),
+                0,
+                f.done,
+            ))),
             tasks::DENSE | tasks::VECTOR | tasks::KEYS => self.go_entries(f),
             tasks::MEMBERS => self.go_members(f),
             tasks::VALUES => {
@@ -211,8 +274,10 @@ impl Feeding<'_, '_> {
 
     // An entry of a task is counted in a column, after `f.done` others.
     fn count_entry(&mut self, f: Frame, col: usize, task: usize) -> Result<Frame, Refusal>
-        ensures { Enters result self.old self.new
+        ensures enters { Enters result self.old self.new
             (λ c m k. s.on (d.on_rows (d.counted f.row col f.done) m c) m (λ y. k (s.task_of (s.frame task f.row f.left (f.done + 1) f.first f.dynamic)))) }
+        ensures spares { OnlyRows (loans_of self.old) (loans_of self.new) }
+        ensures still { self.new.cursor ≡ self.old.cursor }
     {
         self.counted(f.row, col, f.done)?;
         Ok(Frame {
@@ -224,7 +289,9 @@ impl Feeding<'_, '_> {
 
     // A key of a dictionary is finished: its value is next.
     fn key_done(&mut self, f: Frame) -> Result<Frame, Refusal>
-        ensures { Enters result self.old self.new (s.entry (s.keys_of f.row f.left f.done)) }
+        ensures enters { Enters result self.old self.new (s.entry (s.keys_of f.row f.left f.done)) }
+        ensures spares { NoLoan (loans_of self.old) (loans_of self.new) }
+        ensures still { self.new.cursor ≡ self.old.cursor }
     {
         self.key_end(f.row, f.done)?;
         Ok(Frame {
@@ -237,7 +304,9 @@ impl Feeding<'_, '_> {
 
     // The entry in work of a task is finished: what the task has left.
     fn entry_done(&mut self, f: Frame) -> Result<Frame, Refusal>
-        ensures { Enters result self.old self.new (s.entry (s.task_of f)) }
+        ensures enters { Enters result self.old self.new (s.entry (s.task_of f)) }
+        ensures spares { OnlyRows (loans_of self.old) (loans_of self.new) }
+        ensures still { self.new.cursor ≡ self.old.cursor }
     {
         match f.task {
             tasks::PAIRS | tasks::VECTOR | tasks::MEMBERS => {
@@ -251,9 +320,11 @@ impl Feeding<'_, '_> {
     }
 
     // A value is finished: so are those around it whose last it was. `while`: `go` opens values, and moves `depth` itself.
-    pub fn pop(&mut self) -> Result<Next, Refusal>
+    fn popping(&mut self) -> Result<Next, Refusal>
         requires { self.old.depth < suc open_most }
-        ensures { Steps result self.old self.new s.pop }
+        ensures steps { Steps result self.old self.new s.pop }
+        ensures spares { OnlyRows (loans_of self.old) (loans_of self.new) }
+        ensures still { self.new.cursor ≡ self.old.cursor }
     {
         while 0 < self.depth {
             self.depth -= 1;
@@ -266,10 +337,24 @@ impl Feeding<'_, '_> {
         Ok(Next::Finished)
     }
 
+    // The same, and a refusal leaves the values open that were; the cursor doesn't move.
+    pub fn pop(&mut self) -> Result<Next, Refusal>
+        requires { self.old.depth < suc open_most }
+        ensures steps { Steps result self.old self.new s.pop }
+        ensures spares { OnlyRows (loans_of self.old) (loans_of self.new) }
+        ensures back { Back result self.old self.new }
+    {
+        let depth = self.depth;
+        let a = self.popping();
+        self.reopened(depth, a)
+    }
+
     // The value in work goes on with a task.
     pub fn onward(&mut self, f: Frame) -> Result<Next, Refusal>
         requires { self.old.depth < open_most }
-        ensures { Steps result self.old self.new (λ ts. s.onward ts (s.task_of f)) }
+        ensures steps { Steps result self.old self.new (λ ts. s.onward ts (s.task_of f)) }
+        ensures spares { OnlyRows (loans_of self.old) (loans_of self.new) }
+        ensures back { Back result self.old self.new }
     {
         match self.go(f)? {
             Next::Wait(w) => Ok(Next::Wait(w)),
@@ -280,7 +365,9 @@ impl Feeding<'_, '_> {
     // The value in work is finished with its row.
     pub fn close(&mut self, row: usize) -> Result<Next, Refusal>
         requires { self.old.depth < open_most }
-        ensures { Steps result self.old self.new (λ ts. s.ends ts (d.on_rows (d.closed row))) }
+        ensures steps { Steps result self.old self.new (λ ts. s.ends ts (d.on_rows (d.closed row))) }
+        ensures spares { OnlyRows (loans_of self.old) (loans_of self.new) }
+        ensures back { Back result self.old self.new }
     {
         self.closed(row)?;
         self.pop()
@@ -291,7 +378,8 @@ impl Feeding<'_, '_> {
     // A key of pairs is there, which have this frame: an empty one ends them.
     fn keyed(&mut self, f: Frame, p: Span) -> Result<Next, Refusal>
         requires { self.old.depth < open_most }
-        ensures { (g : s.Pairing) → f ≡ s.frame_of (s.pairs_of g) → Steps result self.old self.new (λ ts. s.keyed ts g p p.size) }
+        ensures steps { (g : s.Pairing) → f ≡ s.frame_of (s.pairs_of g) → Steps result self.old self.new (λ ts. s.keyed ts g p p.size) }
+        ensures spares { OnlyRows (loans_of self.old) (loans_of self.new) }
     {
         if p.size != 0 {
             return Ok(self.open_next(f, Key::from(p)));
@@ -309,7 +397,9 @@ impl Feeding<'_, '_> {
     // The members of an object of a trait.
     pub fn members_of(&mut self, row: usize, t: Trait) -> Result<Next, Refusal>
         requires { self.old.depth < open_most }
-        ensures { Steps result self.old self.new (λ ts. s.members ts row t) }
+        ensures steps { Steps result self.old self.new (λ ts. s.members ts row t) }
+        ensures spares { OnlyRows (loans_of self.old) (loans_of self.new) }
+        ensures back { Back result self.old self.new }
     {
         self.onward(Frame {
             task: tasks::MEMBERS,
@@ -324,14 +414,11 @@ impl Feeding<'_, '_> {
     // So many names of a trait are to come.
     fn naming(&mut self, row: usize, t: Trait, n: usize) -> Result<Next, Refusal>
         requires { self.old.depth < open_most }
-        ensures { Steps result self.old self.new (λ ts. s.naming ts row t n) }
+        ensures steps { Steps result self.old self.new (λ ts. s.naming ts row t n) }
+        ensures spares { OnlyMembers (loans_of self.old) (loans_of self.new) }
     {
         if n != 0 {
-            return Ok(Next::Wait(Work {
-                kind: t,
-                count: n - 1,
-                ..string_work(purposes::NAME, row)
-            }));
+            return Ok(Next::Wait(string_work(purposes::NAME, row, t, n - 1, 0)));
         }
         self.trait_end(t)?;
         self.members_of(row, t)
@@ -340,7 +427,8 @@ impl Feeding<'_, '_> {
     // A string value is there.
     fn string_there(&mut self, row: usize, p: Span) -> Result<Next, Refusal>
         requires { self.old.depth < open_most }
-        ensures { Steps result self.old self.new (λ ts. s.had ts (s.for_string row) p) }
+        ensures steps { Steps result self.old self.new (λ ts. s.had ts (s.for_string row) p) }
+        ensures spares { OnlyRows (loans_of self.old) (loans_of self.new) }
     {
         self.bodied(row, p)?;
         self.close(row)
@@ -355,7 +443,8 @@ impl Feeding<'_, '_> {
         p: Span,
     ) -> Result<Next, Refusal>
         requires { self.old.depth < open_most }
-        ensures { Steps result self.old self.new (λ ts. s.had ts (s.for_class row n dynamic) p) }
+        ensures steps { Steps result self.old self.new (λ ts. s.had ts (s.for_class row n dynamic) p) }
+        ensures spares { OnlyMembers (loans_of self.old) (loans_of self.new) }
     {
         let t = decide::trait_of(self.cursor, p, n, dynamic);
         self.object_class(row, t)?;
@@ -365,7 +454,8 @@ impl Feeding<'_, '_> {
     // A name of a trait is there, and `n` more are to come.
     fn name_there(&mut self, row: usize, t: Trait, n: usize, p: Span) -> Result<Next, Refusal>
         requires { self.old.depth < open_most }
-        ensures { Steps result self.old self.new (λ ts. s.had ts (s.for_name row t n) p) }
+        ensures steps { Steps result self.old self.new (λ ts. s.had ts (s.for_name row t n) p) }
+        ensures spares { OnlyMembers (loans_of self.old) (loans_of self.new) }
     {
         self.named(p)?;
         self.naming(row, t, n)
@@ -374,7 +464,8 @@ impl Feeding<'_, '_> {
     // The class of a vector with `n` entries is there.
     fn vector_there(&mut self, row: usize, n: usize, p: Span) -> Result<Next, Refusal>
         requires { self.old.depth < open_most }
-        ensures { Steps result self.old self.new (λ ts. s.had ts (s.for_vector row n) p) }
+        ensures steps { Steps result self.old self.new (λ ts. s.had ts (s.for_vector row n) p) }
+        ensures spares { OnlyRows (loans_of self.old) (loans_of self.new) }
     {
         let star = self.starred(p)?;
         self.vector_class(row, star, p)?;
@@ -387,9 +478,10 @@ impl Feeding<'_, '_> {
     }
 
     // A string is there, for its use.
-    pub fn had(&mut self, w: Work, p: Span) -> Result<Next, Refusal>
+    fn having(&mut self, w: Work, p: Span) -> Result<Next, Refusal>
         requires { self.old.depth < open_most }
-        ensures { Steps result self.old self.new (λ ts c m. with_use (s.broken m) w (λ u. s.had ts u p c m)) }
+        ensures steps { Steps result self.old self.new (λ ts c m. with_use (s.broken m) w (λ u. s.had ts u p c m)) }
+        ensures spares { OnlyMembers (loans_of self.old) (loans_of self.new) }
     {
         let pairs = Frame {
             row: w.row,
@@ -421,17 +513,43 @@ impl Feeding<'_, '_> {
         }
     }
 
+    // The same, and a refusal leaves the cursor and the open values as they were.
+    pub fn had(&mut self, w: Work, p: Span) -> Result<Next, Refusal>
+        requires { self.old.depth < open_most }
+        ensures steps { Steps result self.old self.new (λ ts c m. with_use (s.broken m) w (λ u. s.had ts u p c m)) }
+        ensures spares { OnlyMembers (loans_of self.old) (loans_of self.new) }
+        ensures back { Back result self.old self.new }
+    {
+        let (cursor, depth) = (self.cursor, self.depth);
+        let a = self.having(w, p);
+        self.put_back(cursor, depth, a)
+    }
+
     // The last byte of a text, with the verdict.
-    pub fn text_done(&mut self, w: Work, valid: bool) -> Result<Next, Refusal>
+    fn text_ending(&mut self, w: Work, valid: bool) -> Result<Next, Refusal>
         requires open { self.old.depth < open_most }
         requires text { IsText w }
-        ensures { Steps result self.old self.new (λ ts c m. with_text (s.broken m) w (λ x. s.text_done ts x w.span valid c m)) }
+        ensures steps { Steps result self.old self.new (λ ts c m. with_text (s.broken m) w (λ x. s.text_done ts x w.span valid c m)) }
+        ensures spares { OnlyMembersText (loans_of self.old) (loans_of self.new) }
     {
         if w.purpose == purposes::XML {
             self.judged(valid)?;
             return self.close(w.row);
         }
         let p = self.text_end(w.span, valid)?;
-        self.had(w, p)
+        self.having(w, p)
+    }
+
+    // The same, and a refusal leaves the cursor and the open values as they were.
+    pub fn text_done(&mut self, w: Work, valid: bool) -> Result<Next, Refusal>
+        requires open { self.old.depth < open_most }
+        requires text { IsText w }
+        ensures steps { Steps result self.old self.new (λ ts c m. with_text (s.broken m) w (λ x. s.text_done ts x w.span valid c m)) }
+        ensures spares { OnlyMembersText (loans_of self.old) (loans_of self.new) }
+        ensures back { Back result self.old self.new }
+    {
+        let (cursor, depth) = (self.cursor, self.depth);
+        let a = self.text_ending(w, valid);
+        self.put_back(cursor, depth, a)
     }
 }

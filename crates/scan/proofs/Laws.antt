@@ -3,13 +3,14 @@ use mathlib.Core.Path.{◌≡◌, refl, sym, ap, ◌∙◌}
 use mathlib.Core.List.{List}
 use Prim.Native.Nat.{ℕ}
 use lib.ListN.{length}
-use Rattle.std.specs.Prelude.{Result as Answer, Ok, Err, IsErr, IsErrAnd}
+use Rattle.std.specs.Prelude.{Result as Answer, Ok, Err, IsErr, IsErrAnd, MatchResult}
 use Rattle.std.proofs.lemmas.Result.{err_from_is_err_and}
 use Rattle.std.specs.Borrow.{Bor}
 use Rattle.rows.specs.Memory.{Memory, memory}
 use Rattle.rows.specs.Lent.{lent_of}
 use Rattle.format.specs.declared.Refusal.{Refusal}
 use Rattle.decide.specs.Outcomes.{answer_in, stopped}
+use Rattle.decide.specs.Spared.{NoLoan}
 use Rattle.format.specs.Decide.{give}
 use Rattle.rows.specs.declared.Cursor.{Cursor}
 use Rattle.format.specs.Reading.{Reader, ◌>>=◌, ret}
@@ -93,6 +94,25 @@ from-cursor f {g} q = record { read = out.from-cursor f (memory_in g) g.cursor g
 -- what the exit of a `?` gives back is the refusal
 pub out-err : {A : Type 0} {f : Reader A} {g g' : Reading} {x : Answer A Refusal} {e : Refusal} → IsErr x × IsErrAnd x (λ d. d ≡ e) → Reads (Err e) g g' f → Reads x g g' f
 out-err {x = x} p q = let o = err_from_is_err_and x p.1 in rw (o.1, o.2) q
+
+-- ---- where a refusal leaves the cursor
+
+-- a refusal says nothing of the cursor
+answer-at : {A : Type 0} (x : Answer A Refusal) (b c c' : Cursor) → MatchResult x (λ a. c' ≡ c) (λ r. c' ≡ b) → answer_in x c' ≡ answer_in x c
+answer-at (Ok a) b c c' e = ap (give a tt) e
+answer-at (Err r) b c c' e = refl
+
+-- so what was read stands where the cursor of a refusal is put back
+pub settled : {A : Type 0} {f : Reader A} {g g' g'' : Reading} {x y : Answer A Refusal} (b : Cursor) → Reads x g g' f → y ≡ x → NoLoan (memory_in g') (memory_in g'') → Same g' g''
+    → MatchResult x (λ a. g''.cursor ≡ g'.cursor) (λ r. g''.cursor ≡ b) → Reads y g g'' f
+settled {g} {g'} {g''} {x} b p e m s c =
+    let w : memory_in g'' ≡ memory_in g' = cc in
+    rw e (record {
+      read =
+          ap (λ (m : Memory). result (answer_in x g''.cursor) m g.message.now) w
+          ∙ ap (λ o. result o (memory_in g') g.message.now) (answer-at x b g'.cursor g''.cursor c) ∙ p.read;
+      same = same-then g g' g'' p.same s;
+    })
 
 -- ---- what is left to read in a loop
 

@@ -1,5 +1,5 @@
 -- What a reader's function answers, as the definition has it.
-use Rattle.std.specs.Prelude.{◌≡◌, Option, Some, None, Result as Answer, Ok, Err, List, [], ◌∷◌, ℕ, ◌+◌, cond, leb, ltb, drop}
+use Rattle.std.specs.Prelude.{◌≡◌, Option, Some, None, Result as Answer, Ok, Err, List, [], ◌∷◌, ℕ, ◌+◌, cond, leb, ltb, drop, OnErr}
 use Rattle.std.proofs.lemmas.List.Edits.{sets}
 use Rattle.std.proofs.Math.Seq.{slice}
 use Rattle.rows.specs.declared.Cursor.{Cursor}
@@ -49,6 +49,10 @@ Same g g' = (g'.message ≡ g.message) × SameLoans g g'
 pub record Reads {A : Type 0} (x : Answer A Refusal) (g g' : Reading) (f : Reader A) : Type 0 where
   pub read : result (answer_in x g'.cursor) (memory_in g') g.message.now ≡ reads f (memory_in g) g.cursor g.message.now
   pub same : Same g g'
+
+-- a refusal leaves the cursor as it was
+abbrev pub Back : {A : Type 0} → Answer A Refusal → Reading → Reading → Type 0
+Back x g g' = OnErr x (g'.cursor ≡ g.cursor)
 
 -- the cursor at another place
 abbrev pub moved_to : Cursor → ℕ → Cursor

@@ -3,9 +3,10 @@
 // to one call, which the check refuses.
 ghost use Rattle.std.specs.Prelude.{◌≡◌, ◌+◌, ◌^◌, ◌<◌, IfOk};
 ghost use Rattle.decide.specs.Outcomes.{answer_in, old_object, width_in};
+ghost use Rattle.decide.specs.Spared.{NoLoan, OnlyNames, OnlyObjects, OnlyRows, OnlyStrings, OnlyTraits};
 ghost use Rattle.format.specs.Decide as d;
 ghost use Rattle.format.specs.Reading as r;
-ghost use Rattle.scan.specs.Reads.{Reads, Looks};
+ghost use Rattle.scan.specs.Reads.{Reads, Looks, Back, memory_in};
 
 use crate::Reading;
 use decide::Width;
@@ -22,7 +23,9 @@ fn sealed_key(names: &[usize], c: Cursor, i: usize) -> Result<Key, Refusal>
 impl Reading<'_, '_> {
     // A marker where `left` values may still open: the row of its value.
     pub fn marker(&mut self, key: Key, left: usize, b: usize) -> Result<usize, Refusal>
-        ensures { Reads result self.old self.new (r.by (d.on_rows (d.marker key left b))) }
+        ensures reads { Reads result self.old self.new (r.by (d.on_rows (d.marker key left b))) }
+        ensures spares { OnlyRows (memory_in self.old) (memory_in self.new) }
+        ensures back { Back result self.old self.new }
     {
         let c = self.cursor;
         let (row, cursor) = decide::marker(self.rows, c, key, left, b)?;
@@ -32,7 +35,9 @@ impl Reading<'_, '_> {
 
     // A row ends where the rows now end.
     pub fn closed(&mut self, row: usize) -> Result<(), Refusal>
-        ensures { Reads result self.old self.new (r.by (d.on_rows (d.closed row))) }
+        ensures reads { Reads result self.old self.new (r.by (d.on_rows (d.closed row))) }
+        ensures spares { OnlyRows (memory_in self.old) (memory_in self.new) }
+        ensures back { Back result self.old self.new }
     {
         let c = self.cursor;
         self.cursor = decide::closed(self.rows, c, row)?;
@@ -41,7 +46,9 @@ impl Reading<'_, '_> {
 
     // A row's number is whole, and it ends.
     pub fn numbered(&mut self, row: usize, n: usize) -> Result<(), Refusal>
-        ensures { Reads result self.old self.new (r.by (d.on_rows (d.numbered row n))) }
+        ensures reads { Reads result self.old self.new (r.by (d.on_rows (d.numbered row n))) }
+        ensures spares { OnlyRows (memory_in self.old) (memory_in self.new) }
+        ensures back { Back result self.old self.new }
     {
         let c = self.cursor;
         self.cursor = decide::numbered(self.rows, c, row, n)?;
@@ -50,7 +57,9 @@ impl Reading<'_, '_> {
 
     // An integer's U29 is whole.
     pub fn integer_end(&mut self, row: usize, w: usize) -> Result<(), Refusal>
-        ensures { Reads result self.old self.new (r.by (d.on_rows (d.integer_end row w))) }
+        ensures reads { Reads result self.old self.new (r.by (d.on_rows (d.integer_end row w))) }
+        ensures spares { OnlyRows (memory_in self.old) (memory_in self.new) }
+        ensures back { Back result self.old self.new }
     {
         let c = self.cursor;
         self.cursor = decide::integer_end(self.rows, c, row, w)?;
@@ -59,7 +68,9 @@ impl Reading<'_, '_> {
 
     // A date's eight bytes are whole.
     pub fn date_end(&mut self, row: usize, bits: usize) -> Result<(), Refusal>
-        ensures { Reads result self.old self.new (r.by (d.on_rows (d.date_end row bits))) }
+        ensures reads { Reads result self.old self.new (r.by (d.on_rows (d.date_end row bits))) }
+        ensures spares { OnlyRows (memory_in self.old) (memory_in self.new) }
+        ensures back { Back result self.old self.new }
     {
         let c = self.cursor;
         self.cursor = decide::date_end(self.rows, c, row, bits)?;
@@ -68,7 +79,9 @@ impl Reading<'_, '_> {
 
     // A row's body.
     pub fn bodied(&mut self, row: usize, s: Span) -> Result<(), Refusal>
-        ensures { Reads result self.old self.new (r.by (d.on_rows (d.bodied row s))) }
+        ensures reads { Reads result self.old self.new (r.by (d.on_rows (d.bodied row s))) }
+        ensures spares { OnlyRows (memory_in self.old) (memory_in self.new) }
+        ensures back { Back result self.old self.new }
     {
         let c = self.cursor;
         self.cursor = decide::bodied(self.rows, c, row, s)?;
@@ -77,7 +90,9 @@ impl Reading<'_, '_> {
 
     // An object's class.
     pub fn object_class(&mut self, row: usize, t: Trait) -> Result<(), Refusal>
-        ensures { Reads result self.old self.new (r.by (d.on_rows (d.object_class row t))) }
+        ensures reads { Reads result self.old self.new (r.by (d.on_rows (d.object_class row t))) }
+        ensures spares { OnlyRows (memory_in self.old) (memory_in self.new) }
+        ensures back { Back result self.old self.new }
     {
         let c = self.cursor;
         self.cursor = decide::object_class(self.rows, c, row, t)?;
@@ -86,7 +101,9 @@ impl Reading<'_, '_> {
 
     // A vector's class.
     pub fn vector_class(&mut self, row: usize, star: bool, s: Span) -> Result<(), Refusal>
-        ensures { Reads result self.old self.new (r.by (d.on_rows (d.vector_class row star s))) }
+        ensures reads { Reads result self.old self.new (r.by (d.on_rows (d.vector_class row star s))) }
+        ensures spares { OnlyRows (memory_in self.old) (memory_in self.new) }
+        ensures back { Back result self.old self.new }
     {
         let c = self.cursor;
         self.cursor = decide::vector_class(self.rows, c, row, star, s)?;
@@ -95,7 +112,9 @@ impl Reading<'_, '_> {
 
     // A row's flag.
     pub fn flagged(&mut self, row: usize, flag: usize) -> Result<(), Refusal>
-        ensures { Reads result self.old self.new (r.by (d.on_rows (d.flagged row flag))) }
+        ensures reads { Reads result self.old self.new (r.by (d.on_rows (d.flagged row flag))) }
+        ensures spares { OnlyRows (memory_in self.old) (memory_in self.new) }
+        ensures back { Back result self.old self.new }
     {
         let c = self.cursor;
         self.cursor = decide::flagged(self.rows, c, row, flag)?;
@@ -104,7 +123,9 @@ impl Reading<'_, '_> {
 
     // An entry of a row is finished, after `done` others, which have a row each.
     pub fn counted(&mut self, row: usize, col: usize, done: usize) -> Result<(), Refusal>
-        ensures { Reads result self.old self.new (r.by (d.on_rows (d.counted row col done))) × IfOk result (λ x. done + 1 < 2 ^ 64) }
+        ensures reads { Reads result self.old self.new (r.by (d.on_rows (d.counted row col done))) × IfOk result (λ x. done + 1 < 2 ^ 64) }
+        ensures spares { OnlyRows (memory_in self.old) (memory_in self.new) }
+        ensures back { Back result self.old self.new }
     {
         let c = self.cursor;
         self.cursor = decide::counted(self.rows, c, row, col, done)?;
@@ -113,7 +134,9 @@ impl Reading<'_, '_> {
 
     // `n` bytes of a raw vector are still to come.
     pub fn grown(&mut self, row: usize, w: Width, s: Span, n: usize) -> Result<(), Refusal>
-        ensures { Reads result self.old self.new (r.by (d.on_rows (d.grown row (width_in w) s n))) }
+        ensures reads { Reads result self.old self.new (r.by (d.on_rows (d.grown row (width_in w) s n))) }
+        ensures spares { OnlyRows (memory_in self.old) (memory_in self.new) }
+        ensures back { Back result self.old self.new }
     {
         let c = self.cursor;
         self.cursor = decide::grown(self.rows, c, row, w, s, n)?;
@@ -122,7 +145,9 @@ impl Reading<'_, '_> {
 
     // A row becomes a reference to object `i`.
     pub fn referred(&mut self, row: usize, i: usize) -> Result<(), Refusal>
-        ensures { Reads result self.old self.new (r.by (λ m. d.on_rows (d.referred row i m.objects) m)) }
+        ensures reads { Reads result self.old self.new (r.by (λ m. d.on_rows (d.referred row i m.objects) m)) }
+        ensures spares { OnlyRows (memory_in self.old) (memory_in self.new) }
+        ensures back { Back result self.old self.new }
     {
         let c = self.cursor;
         let object = self.old_object(i)?;
@@ -153,7 +178,9 @@ impl Reading<'_, '_> {
 
     // A row enters the objects.
     pub fn entered(&mut self, row: usize) -> Result<(), Refusal>
-        ensures { Reads result self.old self.new (r.by (d.on_objects (d.entered row))) }
+        ensures reads { Reads result self.old self.new (r.by (d.on_objects (d.entered row))) }
+        ensures spares { OnlyObjects (memory_in self.old) (memory_in self.new) }
+        ensures back { Back result self.old self.new }
     {
         let c = self.cursor;
         self.cursor = decide::entered(self.objects, c, row)?;
@@ -169,7 +196,9 @@ impl Reading<'_, '_> {
 
     // A trait is entered after its last name.
     pub fn trait_end(&mut self, t: Trait) -> Result<(), Refusal>
-        ensures { Reads result self.old self.new (r.by (d.on_traits (d.trait_end t))) }
+        ensures reads { Reads result self.old self.new (r.by (d.on_traits (d.trait_end t))) }
+        ensures spares { OnlyTraits (memory_in self.old) (memory_in self.new) }
+        ensures back { Back result self.old self.new }
     {
         let c = self.cursor;
         self.cursor = decide::trait_end(self.traits, c, t)?;
@@ -178,7 +207,9 @@ impl Reading<'_, '_> {
 
     // A name's span enters the names.
     pub fn named(&mut self, s: Span) -> Result<Span, Refusal>
-        ensures { Reads result self.old self.new (r.by (d.on_names (d.named s))) }
+        ensures reads { Reads result self.old self.new (r.by (d.on_names (d.named s))) }
+        ensures spares { OnlyNames (memory_in self.old) (memory_in self.new) }
+        ensures back { Back result self.old self.new }
     {
         let c = self.cursor;
         let (span, cursor) = decide::named(self.names, c, s)?;
@@ -209,7 +240,9 @@ impl Reading<'_, '_> {
 
     // Room for `n` bytes is reserved before they come.
     pub fn reserved(&mut self, n: usize) -> Result<Span, Refusal>
-        ensures { Reads result self.old self.new (r.by (d.looking (λ m. d.reserved n m.store))) }
+        ensures reads { Reads result self.old self.new (r.by (d.looking (λ m. d.reserved n m.store))) }
+        ensures spares { NoLoan (memory_in self.old) (memory_in self.new) }
+        ensures back { Back result self.old self.new }
     {
         let c = self.cursor;
         let (span, cursor) = decide::reserved(self.store.len(), c, n)?;
@@ -219,7 +252,9 @@ impl Reading<'_, '_> {
 
     // A text's last byte, where it enters the strings.
     pub fn text_end(&mut self, s: Span, valid: bool) -> Result<Span, Refusal>
-        ensures { Reads result self.old self.new (r.by (d.on_strings (d.text_end s valid))) }
+        ensures reads { Reads result self.old self.new (r.by (d.on_strings (d.text_end s valid))) }
+        ensures spares { OnlyStrings (memory_in self.old) (memory_in self.new) }
+        ensures back { Back result self.old self.new }
     {
         let c = self.cursor;
         let (span, cursor) = decide::text_end(self.strings, c, s, valid)?;

@@ -6,17 +6,18 @@
 ghost use Rattle.std.specs.Prelude.{◌≡◌, true, suc, ◌<◌};
 ghost use Rattle.rows.specs.Memory.{open_most, no_span};
 ghost use Rattle.decide.specs.Outcomes.{body_in};
+ghost use Rattle.decide.specs.Spared.{NotObjects, OnlyBody, OnlyMembersObjects, OnlyRows};
 ghost use Rattle.format.specs.Decide as d;
 ghost use Rattle.format.specs.Step as s;
 ghost use Rattle.format.specs.Numbers.{work_of, mode_of, work, no_trait, no_work, body_purpose, work_key, depth_fits};
 ghost use Rattle.format.specs.Numbers.{with_text, with_word, with_number, with_flag, with_raw};
 ghost use Rattle.states.specs.Purposes.{IsText, IsWord, IsNumber, IsFlag, IsRaw};
-ghost use Rattle.resume.specs.Steps.{Steps, Decides, grown_by};
+ghost use Rattle.resume.specs.Steps.{Steps, Back, Decides, grown_by, loans_of};
 
 use decide::{Body, Kind, Width};
 use format::{Frame, Refusal, Work, modes, purposes, tasks};
 use resume::{Feeding, NUMBER_MORE, Next, WORD_MORE};
-use rows::{Key, OPEN_LIMIT, Span};
+use rows::{Key, OPEN_LIMIT, Span, Trait};
 use wire::Part;
 
 // The work of a row alone: so many bytes come after the next one, and those before it gave `part`.
@@ -39,7 +40,9 @@ fn row_work(mode: usize, purpose: usize, row: usize, left: usize, part: usize) -
 fn number_done(f: &mut Feeding, w: Work, bits: usize) -> Result<Next, Refusal>
     requires open { f.old.depth < open_most }
     requires number { IsNumber w }
-    ensures { Steps result f.old f.new (λ ts c m. with_number (s.broken m) w (λ x. s.number_done ts x bits c m)) }
+    ensures steps { Steps result f.old f.new (λ ts c m. with_number (s.broken m) w (λ x. s.number_done ts x bits c m)) }
+    ensures spares { OnlyRows (loans_of f.old) (loans_of f.new) }
+    ensures back { Back result f.old f.new }
 {
     if w.purpose == purposes::DOUBLE {
         f.numbered(w.row, bits)?;
@@ -53,7 +56,9 @@ fn number_done(f: &mut Feeding, w: Work, bits: usize) -> Result<Next, Refusal>
 fn flag_done(f: &mut Feeding, w: Work, b: usize) -> Result<Next, Refusal>
     requires open { f.old.depth < open_most }
     requires flag { IsFlag w }
-    ensures { Steps result f.old f.new (λ ts c m. with_flag (s.broken m) w (λ x. s.flag_done ts x b c m)) }
+    ensures steps { Steps result f.old f.new (λ ts c m. with_flag (s.broken m) w (λ x. s.flag_done ts x b c m)) }
+    ensures spares { OnlyRows (loans_of f.old) (loans_of f.new) }
+    ensures back { Back result f.old f.new }
 {
     if w.purpose == purposes::DICTIONARY {
         f.flagged(w.row, decide::weak(b))?;
@@ -66,10 +71,13 @@ fn flag_done(f: &mut Feeding, w: Work, b: usize) -> Result<Next, Refusal>
     }
     f.flagged(w.row, decide::fixed(b))?;
     if w.purpose == purposes::OBJECT_VECTOR {
-        return Ok(Next::Wait(Work {
-            count: w.count,
-            ..resume::string_work(purposes::VECTOR_CLASS, w.row)
-        }));
+        return Ok(Next::Wait(resume::string_work(
+            purposes::VECTOR_CLASS,
+            w.row,
+            Trait::default(),
+            w.count,
+            0,
+        )));
     }
     words::filling(f, w.purpose, w.row, w.span, w.span.size)
 }
@@ -77,7 +85,9 @@ fn flag_done(f: &mut Feeding, w: Work, b: usize) -> Result<Next, Refusal>
 // A raw byte is stored, so many left after it.
 pub fn raw_grown(f: &mut Feeding, w: Work) -> Result<(), Refusal>
     requires { IsRaw w.purpose }
-    ensures { Decides result f.old f.new (grown_by w) }
+    ensures decided { Decides result f.old f.new (grown_by w) }
+    ensures spares { OnlyRows (loans_of f.old) (loans_of f.new) }
+    ensures still { f.new.cursor ≡ f.old.cursor }
 {
     match w.purpose {
         purposes::FOURS => f.grown(w.row, Width::Four, w.span, w.left),
@@ -90,7 +100,9 @@ pub fn raw_grown(f: &mut Feeding, w: Work) -> Result<(), Refusal>
 fn raw_byte(f: &mut Feeding, w: Work, b: u8) -> Result<Next, Refusal>
     requires open { f.old.depth < open_most }
     requires bytes { IsRaw w.purpose }
-    ensures { Steps result f.old f.new (λ ts c m. with_raw (s.broken m) w.purpose w.row (λ r. s.act (s.at_raw r w.span w.left) b ts c m)) }
+    ensures steps { Steps result f.old f.new (λ ts c m. with_raw (s.broken m) w.purpose w.row (λ r. s.act (s.at_raw r w.span w.left) b ts c m)) }
+    ensures spares { OnlyBody (loans_of f.old) (loans_of f.new) }
+    ensures back { Back result f.old f.new }
 {
     f.stored(w.span, w.left, b)?;
     raw_grown(f, w)?;
@@ -115,7 +127,9 @@ fn text_work(w: Work, left: usize, part: usize) -> Work
 fn text_byte(f: &mut Feeding, w: Work, b: u8) -> Result<Next, Refusal>
     requires open { f.old.depth < open_most }
     requires text { IsText w }
-    ensures { Steps result f.old f.new (λ ts c m. with_text (s.broken m) w (λ x. s.act (s.at_text x w.span w.left w.part) b ts c m)) }
+    ensures steps { Steps result f.old f.new (λ ts c m. with_text (s.broken m) w (λ x. s.act (s.at_text x w.span w.left w.part) b ts c m)) }
+    ensures spares { NotObjects (loans_of f.old) (loans_of f.new) }
+    ensures back { Back result f.old f.new }
 {
     f.stored(w.span, w.left, b)?;
     let part = utf8::step(w.part, b);
@@ -140,7 +154,9 @@ fn word_work(w: Work, left: usize, part: usize) -> Work
 fn word_byte(f: &mut Feeding, w: Work, b: u8) -> Result<Next, Refusal>
     requires open { f.old.depth < open_most }
     requires word { IsWord w }
-    ensures { Steps result f.old f.new (λ ts c m. with_word (s.broken m) w (λ x. s.act (s.at_word x w.left w.part) b ts c m)) }
+    ensures steps { Steps result f.old f.new (λ ts c m. with_word (s.broken m) w (λ x. s.act (s.at_word x w.left w.part) b ts c m)) }
+    ensures spares { OnlyMembersObjects (loans_of f.old) (loans_of f.new) }
+    ensures back { Back result f.old f.new }
 {
     match wire::u29_byte(w.left, w.part, b) {
         None => Err(decide::lost()),
@@ -153,7 +169,9 @@ fn word_byte(f: &mut Feeding, w: Work, b: u8) -> Result<Next, Refusal>
 fn number_byte(f: &mut Feeding, w: Work, b: u8) -> Result<Next, Refusal>
     requires open { f.old.depth < open_most }
     requires number { IsNumber w }
-    ensures { Steps result f.old f.new (λ ts c m. with_number (s.broken m) w (λ x. s.act (s.at_number x w.left w.part) b ts c m)) }
+    ensures steps { Steps result f.old f.new (λ ts c m. with_number (s.broken m) w (λ x. s.act (s.at_number x w.left w.part) b ts c m)) }
+    ensures spares { OnlyRows (loans_of f.old) (loans_of f.new) }
+    ensures back { Back result f.old f.new }
 {
     match wire::be64_byte(w.left, w.part, b) {
         None => Err(decide::lost()),
@@ -190,7 +208,9 @@ fn purpose_of(body: Body) -> usize
 // A value has its row.
 fn begun(f: &mut Feeding, row: usize, b: usize) -> Result<Next, Refusal>
     requires { f.old.depth < open_most }
-    ensures { Steps result f.old f.new (λ ts. s.begun ts row (d.kind_of b)) }
+    ensures steps { Steps result f.old f.new (λ ts. s.begun ts row (d.kind_of b)) }
+    ensures spares { OnlyRows (loans_of f.old) (loans_of f.new) }
+    ensures back { Back result f.old f.new }
 {
     let purpose = match decide::kind_of(b) {
         Kind::Leaf => return f.pop(),
@@ -222,18 +242,32 @@ fn shown(w: Work) -> Key
 }
 
 // A marker.
-fn marker_byte(f: &mut Feeding, w: Work, b: usize) -> Result<Next, Refusal>
+fn marking(f: &mut Feeding, w: Work, b: usize) -> Result<Next, Refusal>
     requires { f.old.depth < suc open_most }
-    ensures { Steps result f.old f.new (s.act (s.at_marker (work_key w)) b) }
+    ensures steps { Steps result f.old f.new (s.act (s.at_marker (work_key w)) b) }
+    ensures spares { OnlyRows (loans_of f.old) (loans_of f.new) }
 {
     let row = f.marker(shown(w), OPEN_LIMIT - f.depth, b)?;
     begun(f, row, b)
 }
 
+// The same, and a refusal leaves the cursor and the open values as they were.
+fn marker_byte(f: &mut Feeding, w: Work, b: usize) -> Result<Next, Refusal>
+    requires { f.old.depth < suc open_most }
+    ensures steps { Steps result f.old f.new (s.act (s.at_marker (work_key w)) b) }
+    ensures spares { OnlyRows (loans_of f.old) (loans_of f.new) }
+    ensures back { Back result f.old f.new }
+{
+    let (cursor, depth) = (f.cursor, f.depth);
+    let a = marking(f, w, b);
+    f.put_back(cursor, depth, a)
+}
+
 // Byte `b` for the work of a sound state, the cursor already past it.
 pub fn act(f: &mut Feeding, w: Work, b: u8) -> Result<Next, Refusal>
     requires { depth_fits (mode_of w) f.old.depth ≡ true }
-    ensures { Steps result f.old f.new (s.act (mode_of w) b) }
+    ensures steps { Steps result f.old f.new (s.act (mode_of w) b) }
+    ensures back { Back result f.old f.new }
 {
     match w.mode {
         modes::MARKER => marker_byte(f, w, b as usize),

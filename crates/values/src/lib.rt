@@ -8,7 +8,7 @@ ghost use Rattle.rows.specs.Memory.{no_key, col_count};
 ghost use Rattle.decide.specs.Outcomes.{body_in};
 ghost use Rattle.format.specs.Decide as d;
 ghost use Rattle.format.specs.Reading as r;
-ghost use Rattle.scan.specs.Reads.{Reads};
+ghost use Rattle.scan.specs.Reads.{Reads, Back};
 ghost use Rattle.parts.specs.Heads.{sealed_member};
 
 use decide::{Body, Kind, Width};
@@ -30,7 +30,7 @@ fn items(
     ensures { Reads result reading.old reading.new (r.entries (λ done. r.value left no_key) row col n 0) }
 {
     for i in 0..n {
-        value(reading, Key::default(), left)?;
+        nested(reading, Key::default(), left)?;
         reading.counted(row, col, i)?;
     }
     Ok(())
@@ -42,9 +42,9 @@ fn couples(reading: &mut Reading, row: usize, n: usize, left: usize) -> Result<(
     ensures { Reads result reading.old reading.new (r.entries (r.couple (r.value left) row) row col_count n 0) }
 {
     for i in 0..n {
-        value(reading, Key::default(), left)?;
+        nested(reading, Key::default(), left)?;
         reading.key_end(row, i)?;
-        value(reading, Key::default(), left)?;
+        nested(reading, Key::default(), left)?;
         reading.counted(row, columns::COUNT, i)?;
     }
     Ok(())
@@ -57,7 +57,7 @@ fn sealed(reading: &mut Reading, row: usize, t: Trait, left: usize) -> Result<()
 {
     for i in 0..t.count {
         let key = reading.sealed_key(t.first + i)?;
-        value(reading, key, left)?;
+        nested(reading, key, left)?;
         reading.counted(row, columns::COUNT, i)?;
     }
     Ok(())
@@ -74,7 +74,7 @@ fn pairs(reading: &mut Reading, row: usize, col: usize, left: usize) -> Result<(
         if s.size == 0 {
             return Ok(());
         }
-        value(reading, Key::from(s), left)?;
+        nested(reading, Key::from(s), left)?;
         reading.counted(row, col, done)?;
         done += 1;
     }
@@ -197,9 +197,9 @@ fn marked(reading: &mut Reading, row: usize, b: usize, left: usize) -> Result<()
     }
 }
 
-// A value, where `left` may still open.
+// A value, also one within another, where `left` may still open: a refusal leaves the cursor where it stands.
 #[cycle(reading)]
-pub fn value(reading: &mut Reading, key: Key, left: usize) -> Result<(), Refusal>
+fn nested(reading: &mut Reading, key: Key, left: usize) -> Result<(), Refusal>
     ensures { Reads result reading.old reading.new (r.value left key) }
 {
     let b = reading.byte()?;
@@ -208,4 +208,14 @@ pub fn value(reading: &mut Reading, key: Key, left: usize) -> Result<(), Refusal
         return Err(decide::lost());
     }
     marked(reading, row, b, left - 1)
+}
+
+// A value, where `left` may still open.
+pub fn value(reading: &mut Reading, key: Key, left: usize) -> Result<(), Refusal>
+    ensures reads { Reads result reading.old reading.new (r.value left key) }
+    ensures back { Back result reading.old reading.new }
+{
+    let before = reading.cursor;
+    let a = nested(reading, key, left);
+    reading.settled(before, a)
 }

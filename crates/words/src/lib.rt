@@ -2,17 +2,18 @@
 
 #![tactic(auto)]
 
-ghost use Rattle.std.specs.Prelude.{◌≡◌, ◌*◌, ◌^◌, ◌<◌};
+ghost use Rattle.std.specs.Prelude.{◌≡◌, ◌≢◌, ◌*◌, ◌^◌, ◌<◌};
 ghost use Rattle.rows.specs.Memory.{open_most, no_span};
 ghost use Rattle.wire.specs.declared.Size.TheVariants.{New};
 ghost use Rattle.wire.specs.Word.{size_of, shape_of};
+ghost use Rattle.decide.specs.Spared.{OnlyMembers, OnlyMembersObjects, OnlyRows, OnlyRowsObjects};
 ghost use Rattle.format.specs.Decide as d;
 ghost use Rattle.format.specs.Step as s;
 ghost use Rattle.format.specs.Numbers.{with_body, work, no_trait, of_dynamic, no_work, use_work, body_purpose, with_use, with_word, with_raw};
-ghost use Rattle.format.specs.Codes.{mode_flag};
+ghost use Rattle.format.specs.Codes.{mode_flag, purpose_integer};
 ghost use Rattle.decide.specs.Outcomes.{body_in, width_in};
 ghost use Rattle.states.specs.Purposes.{IsUse, IsWord, IsRaw};
-ghost use Rattle.resume.specs.Steps.{Steps, Decides, Rooms, reserved_by};
+ghost use Rattle.resume.specs.Steps.{Steps, Back, Decides, Rooms, reserved_by, loans_of};
 
 use decide::{Body, Width};
 use format::{Refusal, Work, modes, purposes};
@@ -77,7 +78,8 @@ fn of_dynamic(dynamic: usize) -> Trait
 
 // A string's span is reserved: a string value's row shows it at once.
 fn reserved_for(f: &mut Feeding, w: Work, p: Span) -> Result<(), Refusal>
-    ensures { Decides result f.old f.new (reserved_by w p) }
+    ensures decided { Decides result f.old f.new (reserved_by w p) }
+    ensures spares { OnlyRows (loans_of f.old) (loans_of f.new) }
 {
     if w.purpose == purposes::STRING {
         f.bodied(w.row, p)?;
@@ -89,7 +91,8 @@ fn reserved_for(f: &mut Feeding, w: Work, p: Span) -> Result<(), Refusal>
 fn string_new(f: &mut Feeding, w: Work, n: usize) -> Result<Next, Refusal>
     requires used { IsUse w }
     requires some { 0 < n }
-    ensures { Steps result f.old f.new (λ ts c m. with_use (s.broken m) w (λ u. s.string_sized ts u (New n) c m)) }
+    ensures steps { Steps result f.old f.new (λ ts c m. with_use (s.broken m) w (λ u. s.string_sized ts u (New n) c m)) }
+    ensures spares { OnlyRows (loans_of f.old) (loans_of f.new) }
 {
     let p = f.reserved(n)?;
     reserved_for(f, w, p)?;
@@ -100,7 +103,8 @@ fn string_new(f: &mut Feeding, w: Work, n: usize) -> Result<Next, Refusal>
 fn string_sized(f: &mut Feeding, w: Work, n: usize) -> Result<Next, Refusal>
     requires open { f.old.depth < open_most }
     requires used { IsUse w }
-    ensures { Steps result f.old f.new (λ ts c m. with_use (s.broken m) w (λ u. s.string_sized ts u (size_of n) c m)) }
+    ensures steps { Steps result f.old f.new (λ ts c m. with_use (s.broken m) w (λ u. s.string_sized ts u (size_of n) c m)) }
+    ensures spares { OnlyMembers (loans_of f.old) (loans_of f.new) }
 {
     match wire::size_of(n) {
         Size::Old(i) => {
@@ -116,7 +120,8 @@ fn string_sized(f: &mut Feeding, w: Work, n: usize) -> Result<Next, Refusal>
 
 // Room for a body of `n` bytes.
 fn roomy(f: &mut Feeding, row: usize, n: usize) -> Result<Span, Refusal>
-    ensures { Rooms result f.old f.new row n }
+    ensures rooms { Rooms result f.old f.new row n }
+    ensures spares { OnlyRows (loans_of f.old) (loans_of f.new) }
 {
     if n == 0 {
         return Ok(Span::default());
@@ -129,7 +134,8 @@ fn roomy(f: &mut Feeding, row: usize, n: usize) -> Result<Span, Refusal>
 // An XML's text of `n` bytes is next.
 fn texting(f: &mut Feeding, row: usize, p: Span, n: usize) -> Result<Next, Refusal>
     requires { f.old.depth < open_most }
-    ensures { Steps result f.old f.new (λ ts. s.texting ts row p n) }
+    ensures steps { Steps result f.old f.new (λ ts. s.texting ts row p n) }
+    ensures spares { OnlyRows (loans_of f.old) (loans_of f.new) }
 {
     if n == 0 {
         return f.close(row);
@@ -154,7 +160,9 @@ pub fn filling(
 ) -> Result<Next, Refusal>
     requires open { f.old.depth < open_most }
     requires bytes { IsRaw purpose }
-    ensures { Steps result f.old f.new (λ ts c m. with_raw (s.broken m) purpose row (λ r. s.filling ts r p n c m)) }
+    ensures steps { Steps result f.old f.new (λ ts c m. with_raw (s.broken m) purpose row (λ r. s.filling ts r p n c m)) }
+    ensures spares { OnlyRows (loans_of f.old) (loans_of f.new) }
+    ensures back { Back result f.old f.new }
 {
     if n == 0 {
         return f.close(row);
@@ -195,7 +203,8 @@ fn flag_work(purpose: usize, row: usize, n: usize) -> Work
 // The room of a raw vector is judged before its flag.
 fn open_raw(f: &mut Feeding, row: usize, width: Width, n: usize) -> Result<Next, Refusal>
     requires { n < 2 ^ 30 }
-    ensures { Steps result f.old f.new (λ ts. s.opened ts row (d.raw (width_in width)) n) }
+    ensures steps { Steps result f.old f.new (λ ts. s.opened ts row (d.raw (width_in width)) n) }
+    ensures spares { OnlyRows (loans_of f.old) (loans_of f.new) }
 {
     let p = roomy(f, row, n * decide::width_of(width))?;
     Ok(Next::Wait(Work {
@@ -211,7 +220,8 @@ fn open_raw(f: &mut Feeding, row: usize, width: Width, n: usize) -> Result<Next,
 fn open_body(f: &mut Feeding, row: usize, body: Body, n: usize) -> Result<Next, Refusal>
     requires open { f.old.depth < open_most }
     requires small { n < 2 ^ 30 }
-    ensures { Steps result f.old f.new (λ ts. s.opened ts row (body_in body) n) }
+    ensures steps { Steps result f.old f.new (λ ts. s.opened ts row (body_in body) n) }
+    ensures spares { OnlyRows (loans_of f.old) (loans_of f.new) }
 {
     match body {
         Body::Xml => {
@@ -225,10 +235,13 @@ fn open_body(f: &mut Feeding, row: usize, body: Body, n: usize) -> Result<Next, 
             left: resume::NUMBER_MORE,
             ..Work::default()
         })),
-        Body::Array => Ok(Next::Wait(Work {
-            count: n,
-            ..resume::string_work(purposes::KEY, row)
-        })),
+        Body::Array => Ok(Next::Wait(resume::string_work(
+            purposes::KEY,
+            row,
+            Trait::default(),
+            n,
+            0,
+        ))),
         Body::Bytes => {
             let p = roomy(f, row, n)?;
             filling(f, purposes::BYTE_ARRAY, row, p, n)
@@ -243,7 +256,8 @@ fn open_body(f: &mut Feeding, row: usize, body: Body, n: usize) -> Result<Next, 
 // A reference to object `i`.
 fn refer(f: &mut Feeding, row: usize, i: usize) -> Result<Next, Refusal>
     requires { f.old.depth < open_most }
-    ensures { Steps result f.old f.new (λ ts. s.ends ts (λ m. d.on_rows (d.referred row i m.objects) m)) }
+    ensures steps { Steps result f.old f.new (λ ts. s.ends ts (λ m. d.on_rows (d.referred row i m.objects) m)) }
+    ensures spares { OnlyRows (loans_of f.old) (loans_of f.new) }
 {
     f.referred(row, i)?;
     f.pop()
@@ -253,7 +267,8 @@ fn refer(f: &mut Feeding, row: usize, i: usize) -> Result<Next, Refusal>
 fn body_sized(f: &mut Feeding, row: usize, body: Body, w: usize) -> Result<Next, Refusal>
     requires open { f.old.depth < open_most }
     requires small { w < 2 ^ 30 }
-    ensures { Steps result f.old f.new (λ ts. s.body_sized ts row (body_in body) (size_of w)) }
+    ensures steps { Steps result f.old f.new (λ ts. s.body_sized ts row (body_in body) (size_of w)) }
+    ensures spares { OnlyRowsObjects (loans_of f.old) (loans_of f.new) }
 {
     match wire::size_of(w) {
         Size::Old(i) => refer(f, row, i),
@@ -269,8 +284,9 @@ fn body_sized(f: &mut Feeding, row: usize, body: Body, w: usize) -> Result<Next,
 // An object of a trait that was read before.
 fn object_known(f: &mut Feeding, row: usize, i: usize) -> Result<Next, Refusal>
     requires { f.old.depth < open_most }
-    ensures { Steps result f.old f.new
+    ensures steps { Steps result f.old f.new
         (λ ts c m. s.on (d.looking (λ m. d.old_trait i m.traits) m c) m (λ t c m. s.on (d.on_rows (d.object_class row t) m c) m (λ y. s.members ts row t))) }
+    ensures spares { OnlyRows (loans_of f.old) (loans_of f.new) }
 {
     let t = f.old_trait(i)?;
     f.object_class(row, t)?;
@@ -280,7 +296,8 @@ fn object_known(f: &mut Feeding, row: usize, i: usize) -> Result<Next, Refusal>
 // An object's word is whole.
 fn object_shaped(f: &mut Feeding, row: usize, w: usize) -> Result<Next, Refusal>
     requires { f.old.depth < open_most }
-    ensures { Steps result f.old f.new (λ ts. s.object_shaped ts row (shape_of w)) }
+    ensures steps { Steps result f.old f.new (λ ts. s.object_shaped ts row (shape_of w)) }
+    ensures spares { OnlyRowsObjects (loans_of f.old) (loans_of f.new) }
 {
     match wire::shape_of(w) {
         Shape::Object(i) => refer(f, row, i),
@@ -290,15 +307,13 @@ fn object_shaped(f: &mut Feeding, row: usize, w: usize) -> Result<Next, Refusal>
         }
         Shape::External => {
             f.entered(row)?;
-            Ok(Next::Wait(resume::string_work(purposes::EXTERNAL, 0)))
+            let external = resume::string_work(purposes::EXTERNAL, 0, Trait::default(), 0, 0);
+            Ok(Next::Wait(external))
         }
         Shape::Inline(n, dynamic) => {
             f.entered(row)?;
-            Ok(Next::Wait(Work {
-                kind: of_dynamic(dynamic),
-                count: n,
-                ..resume::string_work(purposes::CLASS, row)
-            }))
+            let class = resume::string_work(purposes::CLASS, row, of_dynamic(dynamic), n, 0);
+            Ok(Next::Wait(class))
         }
     }
 }
@@ -321,17 +336,15 @@ fn body_for(purpose: usize) -> Body
     }
 }
 
-// A word is whole.
-pub fn worded(f: &mut Feeding, w: Work, n: usize) -> Result<Next, Refusal>
+// A word that is no integer is whole.
+fn wording(f: &mut Feeding, w: Work, n: usize) -> Result<Next, Refusal>
     requires open { f.old.depth < open_most }
     requires word { IsWord w }
+    requires other { w.purpose ≢ purpose_integer }
     requires small { n < 2 ^ 30 }
-    ensures { Steps result f.old f.new (λ ts c m. with_word (s.broken m) w (λ x. s.worded ts x n c m)) }
+    ensures steps { Steps result f.old f.new (λ ts c m. with_word (s.broken m) w (λ x. s.worded ts x n c m)) }
+    ensures spares { OnlyMembersObjects (loans_of f.old) (loans_of f.new) }
 {
-    if w.purpose == purposes::INTEGER {
-        f.integer_end(w.row, n)?;
-        return f.pop();
-    }
     if w.purpose == purposes::OBJECT {
         return object_shaped(f, w.row, n);
     }
@@ -339,4 +352,22 @@ pub fn worded(f: &mut Feeding, w: Work, n: usize) -> Result<Next, Refusal>
         return body_sized(f, w.row, body_for(w.purpose), n);
     }
     string_sized(f, w, n)
+}
+
+// A word is whole.
+pub fn worded(f: &mut Feeding, w: Work, n: usize) -> Result<Next, Refusal>
+    requires open { f.old.depth < open_most }
+    requires word { IsWord w }
+    requires small { n < 2 ^ 30 }
+    ensures steps { Steps result f.old f.new (λ ts c m. with_word (s.broken m) w (λ x. s.worded ts x n c m)) }
+    ensures spares { OnlyMembersObjects (loans_of f.old) (loans_of f.new) }
+    ensures back { Back result f.old f.new }
+{
+    if w.purpose == purposes::INTEGER {
+        f.integer_end(w.row, n)?;
+        return f.pop();
+    }
+    let (cursor, depth) = (f.cursor, f.depth);
+    let a = wording(f, w, n);
+    f.put_back(cursor, depth, a)
 }

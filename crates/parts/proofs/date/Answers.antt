@@ -1,12 +1,12 @@
 -- What is read, and what its row shows.
 use Rattle.format.specs.Reading as r
-use Rattle.scan.proofs.Laws.{then, fails, out-err}
+use Rattle.scan.proofs.Laws.{then, fails, settled, out-err}
 use Rattle.parts.proofs.date.Goals as goal
 
-pub returns-in_err-bits : goal.returns-in_err-bits
+pub returns-in_err-bits-clause-reads : goal.returns-in_err-bits-clause-reads
 unfolding r.new_of
-returns-in_err-bits c = λ value n. out-err c.from_residual.ensures (fails _ _ c.in_err-bits.ensures)
+returns-in_err-bits-clause-reads c = λ value n. out-err c.from_residual.ensures (fails _ _ c.in_err-bits.ensures.reads)
 
-pub returns : goal.returns
+pub returns-clause-reads : goal.returns-clause-reads
 unfolding r.new_of
-returns c = λ value n. then _ _ c.in_ok-bits.ensures c.date_end.ensures
+returns-clause-reads c = λ value n. settled _ (then _ _ c.in_ok-bits.ensures.reads c.date_end-a.ensures.reads) c.settled.ensures.answer c.settled.ensures.spares c.settled.ensures.same c.settled.ensures.cursor

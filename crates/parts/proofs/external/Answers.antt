@@ -5,10 +5,10 @@ use Rattle.scan.proofs.Does.{does_refuse}
 use mathlib.Core.Path.{refl}
 use Rattle.parts.proofs.external.Goals as goal
 
-pub returns-in_err-text : goal.returns-in_err-text
+pub returns-in_err-text-clause-reads : goal.returns-in_err-text-clause-reads
 unfolding external_trait
-returns-in_err-text c = out-err c.from_residual.ensures (fails _ _ c.in_err-text.ensures)
+returns-in_err-text-clause-reads c = out-err c.from_residual.ensures (fails _ _ c.in_err-text.ensures.reads)
 
-pub returns : goal.returns
+pub returns-clause-reads : goal.returns-clause-reads
 unfolding external_trait
-returns c = then _ _ c.in_ok-text.ensures (record { read = does_refuse _ _ _ _ _ _ c.refuse.ensures; same = (refl, (refl, refl)) })
+returns-clause-reads c = then _ _ c.in_ok-text.ensures.reads (record { read = does_refuse _ _ _ _ _ _ c.refuse.ensures; same = (refl, (refl, refl)) })

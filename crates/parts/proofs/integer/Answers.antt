@@ -1,12 +1,12 @@
 -- What is read, and what its row shows.
 use Rattle.format.specs.Reading as r
-use Rattle.scan.proofs.Laws.{then, fails, out-err}
+use Rattle.scan.proofs.Laws.{then, fails, settled, out-err}
 use Rattle.parts.proofs.integer.Goals as goal
 
-pub returns-in_err-w : goal.returns-in_err-w
+pub returns-in_err-w-clause-reads : goal.returns-in_err-w-clause-reads
 unfolding r.marked
-returns-in_err-w c = λ value. out-err c.from_residual.ensures (fails _ _ c.in_err-w.ensures.0)
+returns-in_err-w-clause-reads c = λ value. out-err c.from_residual.ensures (fails _ _ c.in_err-w.ensures.reads.0)
 
-pub returns : goal.returns
+pub returns-clause-reads : goal.returns-clause-reads
 unfolding r.marked
-returns c = λ value. then _ _ c.in_ok-w.ensures.0 c.integer_end.ensures
+returns-clause-reads c = λ value. settled _ (then _ _ c.in_ok-w.ensures.reads.0 c.integer_end-a.ensures.reads) c.settled.ensures.answer c.settled.ensures.spares c.settled.ensures.same c.settled.ensures.cursor

@@ -5,14 +5,14 @@ use Rattle.scan.proofs.Laws.{then, fails, given, alike, out-err}
 use Rattle.scan.proofs.Sizes.{room-none, room-some}
 use Rattle.parts.proofs.room.Goals as goal
 
-pub returns-then-n-eq0 : goal.returns-then-n-eq0
-returns-then-n-eq0 c = record { read = rw (c.default.ensures.0, c.default.ensures.1) (room-none _ _ _ _ _ c.if-n-eq0.true); same = (refl, (refl, refl)) }
+pub returns-then-n-eq0-clause-reads : goal.returns-then-n-eq0-clause-reads
+returns-then-n-eq0-clause-reads c = record { read = rw (c.default.ensures.0, c.default.ensures.1) (room-none _ _ _ _ _ c.if-n-eq0.true); same = (refl, (refl, refl)) }
 
-pub returns-in_err-s : goal.returns-in_err-s
-returns-in_err-s c = out-err c.from_residual.ensures (alike (sym (room-some _ _ _ _ _ c.if-n-eq0.false)) (fails _ _ c.in_err-s.ensures))
+pub returns-in_err-s-clause-reads : goal.returns-in_err-s-clause-reads
+returns-in_err-s-clause-reads c = out-err c.from_residual.ensures (alike (sym (room-some _ _ _ _ _ c.if-n-eq0.false)) (fails _ _ c.in_err-s.ensures.reads))
 
-pub returns-in_err-bodied : goal.returns-in_err-bodied
-returns-in_err-bodied c = out-err c.from_residual-in_err-bodied.ensures (alike (sym (room-some _ _ _ _ _ c.if-n-eq0.false)) (then _ _ c.in_ok-s.ensures (fails _ _ c.in_err-bodied.ensures)))
+pub returns-in_err-bodied-clause-reads : goal.returns-in_err-bodied-clause-reads
+returns-in_err-bodied-clause-reads c = out-err c.from_residual-in_err-bodied.ensures (alike (sym (room-some _ _ _ _ _ c.if-n-eq0.false)) (then _ _ c.in_ok-s.ensures.reads (fails _ _ c.in_err-bodied.ensures.reads)))
 
-pub returns : goal.returns
-returns c = alike (sym (room-some _ _ _ _ _ c.if-n-eq0.false)) (then _ _ c.in_ok-s.ensures (then _ _ c.in_ok-bodied.ensures given))
+pub returns-clause-reads : goal.returns-clause-reads
+returns-clause-reads c = alike (sym (room-some _ _ _ _ _ c.if-n-eq0.false)) (then _ _ c.in_ok-s.ensures.reads (then _ _ c.in_ok-bodied.ensures.reads given))

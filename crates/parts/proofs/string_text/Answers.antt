@@ -4,14 +4,14 @@ use Rattle.format.specs.Reading as r
 use Rattle.scan.proofs.Laws.{then, fails, chosen, out-err}
 use Rattle.parts.proofs.string_text.Goals as goal
 
-pub returns-in_err-w : goal.returns-in_err-w
+pub returns-in_err-w-clause-reads : goal.returns-in_err-w-clause-reads
 unfolding r.text
-returns-in_err-w c = out-err c.from_residual.ensures (fails _ _ c.in_err-w.ensures.0)
+returns-in_err-w-clause-reads c = out-err c.from_residual.ensures (fails _ _ c.in_err-w.ensures.reads.0)
 
-pub returns-in-Old : goal.returns-in-Old
+pub returns-in-Old-clause-reads : goal.returns-in-Old-clause-reads
 unfolding r.text r.text_of
-returns-in-Old c = then _ _ c.in_ok-w.ensures.0 (chosen (r.text_of _) (sym c.in-Old.is ∙ c.size_of.ensures) c.old_text.ensures)
+returns-in-Old-clause-reads c = then _ _ c.in_ok-w.ensures.reads.0 (chosen (r.text_of _) (sym c.in-Old.is ∙ c.size_of.ensures) c.old_text.ensures)
 
-pub returns-in-New : goal.returns-in-New
+pub returns-in-New-clause-reads : goal.returns-in-New-clause-reads
 unfolding r.text
-returns-in-New c = then _ _ c.in_ok-w.ensures.0 (chosen (r.text_of _) (sym c.in-New.is ∙ c.size_of.ensures) c.new_string.ensures)
+returns-in-New-clause-reads c = then _ _ c.in_ok-w.ensures.reads.0 (chosen (r.text_of _) (sym c.in-New.is ∙ c.size_of.ensures) c.new_string.ensures.reads)

@@ -16,4 +16,4 @@ returns-then-w-eq-TEXT-clause-filled c = fills-text (search rules) c.if-w-eq-TEX
 
 pub returns-clause-filled : goal.returns-clause-filled
 unfolding lent_of
-returns-clause-filled c = fills-raw (search rules) c.if-w-eq-TEXT.false (c.requires.raw c.if-w-eq-TEXT.false) c.raw_grown.ensures
+returns-clause-filled c = fills-raw (search rules) c.if-w-eq-TEXT.false (c.requires.raw c.if-w-eq-TEXT.false) c.raw_grown.ensures.decided

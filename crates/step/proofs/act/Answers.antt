@@ -37,25 +37,25 @@ raw_byte-requires-clause-open c = (fits-raw c.args.w _ c.in-6.is c.requires).0
 pub raw_byte-requires-clause-bytes : goal.raw_byte-requires-clause-bytes
 raw_byte-requires-clause-bytes c = (fits-raw c.args.w _ c.in-6.is c.requires).1
 
-pub returns-in-1 : goal.returns-in-1
-returns-in-1 c = as_is (acts_marker c.args.w _ c.in-1.is) c.marker_byte.ensures
+pub returns-in-1-clause-steps : goal.returns-in-1-clause-steps
+returns-in-1-clause-steps c = as_is (acts_marker c.args.w _ c.in-1.is) c.marker_byte.ensures.steps
 
-pub returns-in-2 : goal.returns-in-2
-returns-in-2 c = as_is (acts_word c.args.w _ c.in-2.is (fits_word c.args.w _ c.in-2.is c.requires).1) c.word_byte.ensures
+pub returns-in-2-clause-steps : goal.returns-in-2-clause-steps
+returns-in-2-clause-steps c = as_is (acts_word c.args.w _ c.in-2.is (fits_word c.args.w _ c.in-2.is c.requires).1) c.word_byte.ensures.steps
 
-pub returns-in-3 : goal.returns-in-3
-returns-in-3 c = as_is (acts_number c.args.w _ c.in-3.is (fits-number c.args.w _ c.in-3.is c.requires).1) c.number_byte.ensures
+pub returns-in-3-clause-steps : goal.returns-in-3-clause-steps
+returns-in-3-clause-steps c = as_is (acts_number c.args.w _ c.in-3.is (fits-number c.args.w _ c.in-3.is c.requires).1) c.number_byte.ensures.steps
 
-pub returns-in-4 : goal.returns-in-4
-returns-in-4 c = as_is (acts_flag c.args.w _ c.in-4.is (fits-flag c.args.w _ c.in-4.is c.requires).1) c.flag_done.ensures
+pub returns-in-4-clause-steps : goal.returns-in-4-clause-steps
+returns-in-4-clause-steps c = as_is (acts_flag c.args.w _ c.in-4.is (fits-flag c.args.w _ c.in-4.is c.requires).1) c.flag_done.ensures.steps
 
-pub returns-in-5 : goal.returns-in-5
-returns-in-5 c = as_is (acts_text c.args.w _ c.in-5.is (fits-text c.args.w _ c.in-5.is c.requires).1) c.text_byte.ensures
+pub returns-in-5-clause-steps : goal.returns-in-5-clause-steps
+returns-in-5-clause-steps c = as_is (acts_text c.args.w _ c.in-5.is (fits-text c.args.w _ c.in-5.is c.requires).1) c.text_byte.ensures.steps
 
-pub returns-in-6 : goal.returns-in-6
-returns-in-6 c = as_is (acts_raw c.args.w _ c.in-6.is (fits-raw c.args.w _ c.in-6.is c.requires).1) c.raw_byte.ensures
+pub returns-in-6-clause-steps : goal.returns-in-6-clause-steps
+returns-in-6-clause-steps c = as_is (acts_raw c.args.w _ c.in-6.is (fits-raw c.args.w _ c.in-6.is c.requires).1) c.raw_byte.ensures.steps
 
-pub returns-in_default : goal.returns-in_default
-returns-in_default c =
+pub returns-in_default-clause-steps : goal.returns-in_default-clause-steps
+returns-in_default-clause-steps c =
     absurd (no_mode c.args.w c.in_default.in_default-own.rest.0.0.0.0.0.1 c.in_default.in_default-own.rest.0.0.0.0.1
     c.in_default.in_default-own.rest.0.0.0.1 c.in_default.in_default-own.rest.0.0.1 c.in_default.in_default-own.rest.0.1 c.in_default.in_default-own.rest.1 _ c.requires)

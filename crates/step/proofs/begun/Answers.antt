@@ -7,17 +7,17 @@ use Rattle.resume.proofs.Moves.{as_is, waits}
 use Rattle.step.proofs.begun.Goals as goal
 use Rattle.step.proofs.begun.Goals.{in-Integer, in-String, in-Object, in-Sized}
 
-pub returns-in-Leaf : goal.returns-in-Leaf
+pub returns-in-Leaf-clause-steps : goal.returns-in-Leaf-clause-steps
 unfolding begun
-returns-in-Leaf c = as_is (λ ts k m. ap (λ x. begun ts c.args.row x k m) (sym c.kind_of.ensures ∙ ap kind_in c.in-Leaf.is)) c.pop.ensures
+returns-in-Leaf-clause-steps c = as_is (λ ts k m. ap (λ x. begun ts c.args.row x k m) (sym c.kind_of.ensures ∙ ap kind_in c.in-Leaf.is)) c.pop.ensures.steps
 
-pub returns-in-Double : goal.returns-in-Double
+pub returns-in-Double-clause-steps : goal.returns-in-Double-clause-steps
 unfolding begun work_of
-returns-in-Double c = as_is (λ ts k m. ap (λ x. begun ts c.args.row x k m) (sym c.kind_of.ensures ∙ ap kind_in c.in-Double.is)) (waits c.row_work-double.ensures)
+returns-in-Double-clause-steps c = as_is (λ ts k m. ap (λ x. begun ts c.args.row x k m) (sym c.kind_of.ensures ∙ ap kind_in c.in-Double.is)) (waits c.row_work-double.ensures)
 
-pub returns : goal.returns
+pub returns-clause-steps : goal.returns-clause-steps
 unfolding begun work_of use_work
-returns c = elim c.match-kind_of.branch [
+returns-clause-steps c = elim c.match-kind_of.branch [
   | in-Integer w ↦
       as_is (λ ts k m. ap (λ x. begun ts c.args.row x k m) (sym c.kind_of.ensures ∙ ap kind_in w.in-Integer.is)) (waits (rw (c.row_work.ensures, w.purpose-is)))
   | in-String w ↦

@@ -43,8 +43,8 @@ decreases-sealed l = l.left * 7 + 1
 abbrev pub decreases-sized_value : goal.decreases-sized_value
 decreases-sized_value l = l.left * 7 + 5
 
-abbrev pub decreases-value : goal.decreases-value
-decreases-value l = l.left * 7
+abbrev pub decreases-nested : goal.decreases-nested
+decreases-nested l = l.left * 7
 
 abbrev pub decreases-vector : goal.decreases-vector
 decreases-vector l = l.left * 7 + 3

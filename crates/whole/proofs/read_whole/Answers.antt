@@ -17,14 +17,14 @@ returns-in-Some c = let f = some-fault (memory_in c.args.reading.now) c.lent.res
 pub returns-in-Ok : goal.returns-in-Ok
 returns-in-Ok c =
     let f = none-fault (memory_in c.args.reading.now) c.lent.result c.lent.ensures (sym (none-of _ c.in_default.not-Some) ∙ c.fault.ensures) in (
-      read-finished _ _ _ refl f _ _ _ c.clear.ensures.0 _ (is-no-key c.default.result c.default.ensures) _ (is-fresh _ c.default-reading.ensures) c.in-Ok.ensures.read _ refl ∙ ap (λ (s : Bor (List ℕ)). read_call (memory_in c.args.reading.now) s.now) c.clear.ensures.1.0,
-      same-then c.args.reading.now c.clear.new.self c.value.new.reading c.clear.ensures.1 c.in-Ok.ensures.same,
+      read-finished _ _ _ refl f _ _ _ c.clear.ensures.zero.0 _ (is-no-key c.default.result c.default.ensures) _ (is-fresh _ c.default-reading.ensures) c.in-Ok.ensures.reads.read _ refl ∙ ap (λ (s : Bor (List ℕ)). read_call (memory_in c.args.reading.now) s.now) c.clear.ensures.zero.1.0,
+      same-then c.args.reading.now c.clear.new.self c.value.new.reading c.clear.ensures.zero.1 c.in-Ok.ensures.reads.same,
     )
 
 pub returns-in-Err : goal.returns-in-Err
 returns-in-Err c =
     let f = none-fault (memory_in c.args.reading.now) c.lent.result c.lent.ensures (sym (none-of _ c.in_default.not-Some) ∙ c.fault.ensures) in (
-      read-refused _ _ _ refl f _ _ _ c.clear.ensures.0 _ (is-no-key c.default.result c.default.ensures) _ (is-fresh _ c.default-reading.ensures) c.in-Err.ensures.read _ _ _ refl refl
-          c.clear-in-Err.ensures.0 ∙ ap (λ (s : Bor (List ℕ)). read_call (memory_in c.args.reading.now) s.now) c.clear.ensures.1.0,
-      same-then c.args.reading.now c.value.new.reading c.clear-in-Err.new.self (same-then c.args.reading.now c.clear.new.self c.value.new.reading c.clear.ensures.1 c.in-Err.ensures.same) c.clear-in-Err.ensures.1,
+      read-refused _ _ _ refl f _ _ _ c.clear.ensures.zero.0 _ (is-no-key c.default.result c.default.ensures) _ (is-fresh _ c.default-reading.ensures) c.in-Err.ensures.reads.read _ _ _ refl refl
+          c.clear-in-Err.ensures.zero.0 ∙ ap (λ (s : Bor (List ℕ)). read_call (memory_in c.args.reading.now) s.now) c.clear.ensures.zero.1.0,
+      same-then c.args.reading.now c.value.new.reading c.clear-in-Err.new.self (same-then c.args.reading.now c.clear.new.self c.value.new.reading c.clear.ensures.zero.1 c.in-Err.ensures.reads.same) c.clear-in-Err.ensures.zero.1,
     )

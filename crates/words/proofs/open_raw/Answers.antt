@@ -10,13 +10,13 @@ use Rattle.words.proofs.open_raw.Goals as goal
 pub overflow_mul-n : goal.overflow_mul-n
 overflow_mul-n c = omega (arith, width_small c.args.width c.args.n _ c.width_of.ensures c.requires)
 
-pub returns-in_err-p : goal.returns-in_err-p
+pub returns-in_err-p-clause-steps : goal.returns-in_err-p-clause-steps
 unfolding opened
-returns-in_err-p c =
-    not_given (λ ts s. wait (at_flag (raw_flag c.args.row (width_in c.args.width) s)) ts) (rw c.width_of.ensures at c.in_err-p.ensures) c.from_residual.ensures
+returns-in_err-p-clause-steps c =
+    not_given (λ ts s. wait (at_flag (raw_flag c.args.row (width_in c.args.width) s)) ts) (rw c.width_of.ensures at c.in_err-p.ensures.rooms) c.from_residual.ensures
 
-pub returns : goal.returns
+pub returns-clause-steps : goal.returns-clause-steps
 unfolding opened work_of
-returns c =
-    after_given (λ ts s. wait (at_flag (raw_flag c.args.row (width_in c.args.width) s)) ts) (rw c.width_of.ensures at c.in_ok-p.ensures)
+returns-clause-steps c =
+    after_given (λ ts s. wait (at_flag (raw_flag c.args.row (width_in c.args.width) s)) ts) (rw c.width_of.ensures at c.in_ok-p.ensures.rooms)
     (waits (let e : c.default.result ≡ no_work = search rules in rw (c.raw_purpose.ensures, e)))

@@ -1,27 +1,15 @@
--- By the purpose.
-use borrow.Author.Tests.{ne_eqb, lt-leb}
+-- An integer ends; else the answer of `wording`, and what a refusal puts back.
 use Rattle.format.specs.Step.{pop, worded}
-use Rattle.resume.proofs.Moves.{as_is, stopped_by, after_it}
-use Rattle.words.proofs.Bodies.{word-of-body}
+use Rattle.resume.proofs.Moves.{stopped_by, after_it, puts_back}
 use Rattle.words.proofs.worded.Goals as goal
 
-pub returns-in_err-integer_end : goal.returns-in_err-integer_end
+pub returns-in_err-integer_end-clause-steps : goal.returns-in_err-integer_end-clause-steps
 unfolding worded
-returns-in_err-integer_end c = rw c.if-w-eq-INTEGER.true (stopped_by (λ ts y. pop ts) c.in_err-integer_end.ensures c.from_residual.ensures)
+returns-in_err-integer_end-clause-steps c = rw c.if-w-eq-INTEGER.true (stopped_by (λ ts y. pop ts) c.in_err-integer_end.ensures.decided c.from_residual.ensures)
 
-pub returns-then-w-eq-INTEGER : goal.returns-then-w-eq-INTEGER
+pub returns-then-w-eq-INTEGER-clause-steps : goal.returns-then-w-eq-INTEGER-clause-steps
 unfolding worded
-returns-then-w-eq-INTEGER c = rw c.if-w-eq-INTEGER.true (after_it (λ ts y. pop ts) c.in_ok-integer_end.ensures c.pop.ensures)
+returns-then-w-eq-INTEGER-clause-steps c = rw c.if-w-eq-INTEGER.true (after_it (λ ts y. pop ts) c.in_ok-integer_end.ensures.decided c.pop.ensures.steps)
 
-pub returns-then-w-eq-OBJECT : goal.returns-then-w-eq-OBJECT
-unfolding worded
-returns-then-w-eq-OBJECT c = rw c.if-w-eq-OBJECT.true c.object_shaped.ensures
-
-pub returns-then-w-le-DICTIONARY : goal.returns-then-w-le-DICTIONARY
-returns-then-w-le-DICTIONARY c =
-    as_is (λ ts c' m. word-of-body ts c' m c.args.w c.args.n c.requires.word c.if-w-eq-INTEGER.false c.if-w-eq-OBJECT.false c.if-w-le-DICTIONARY.true)
-    (rw c.body_for.ensures at c.body_sized.ensures)
-
-pub returns : goal.returns
-unfolding worded
-returns c = rw (ne_eqb _ _ c.if-w-eq-INTEGER.false, ne_eqb _ _ c.if-w-eq-OBJECT.false, lt-leb _ _ c.if-w-le-DICTIONARY.false) c.string_sized.ensures
+pub returns-clause-steps : goal.returns-clause-steps
+returns-clause-steps c = puts_back _ _ c.put_back.ensures.answer c.put_back.ensures.back c.wording-a.ensures.steps

@@ -1,9 +1,12 @@
 -- The decision, with the loan that it left.
 use Rattle.std.proofs.Common.{rules}
 use Rattle.rows.specs.Lent.{lent_of}
-use Rattle.resume.proofs.Decided.{wrote}
+use Rattle.resume.proofs.Decided.{wrote, closed_still}
 use Rattle.resume.proofs.Feeding.closed.Goals as goal
 
-pub returns : goal.returns
+pub returns-clause-decided : goal.returns-clause-decided
 unfolding lent_of
-returns c = search (rules, wrote)
+returns-clause-decided c = search (rules, wrote)
+
+pub returns-clause-still : goal.returns-clause-still
+returns-clause-still c = closed_still _ _ _ _ _ c.in_ok-self.ensures

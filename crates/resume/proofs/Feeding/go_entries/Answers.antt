@@ -5,8 +5,8 @@ use Rattle.resume.proofs.Moves.{goes_as}
 use Rattle.resume.proofs.Tasks.{no-entries, more-entries}
 use Rattle.resume.proofs.Feeding.go_entries.Goals as goal
 
-pub returns-then-f-eq0 : goal.returns-then-f-eq0
-returns-then-f-eq0 c = goes_as (λ ts c' m. no-entries _ _ _ _ _ _ _ _ _ _ c.requires.listed c.if-f-eq0.true) c.finish.ensures
+pub returns-then-f-eq0-clause-goes : goal.returns-then-f-eq0-clause-goes
+returns-then-f-eq0-clause-goes c = goes_as (λ ts c' m. no-entries _ _ _ _ _ _ _ _ _ _ c.requires.listed c.if-f-eq0.true) c.finish.ensures.goes
 
-pub returns : goal.returns
-returns c = goes_as (λ ts c' m. more-entries _ _ _ _ _ _ _ _ _ _ c.requires.listed c.if-f-eq0.false) (let e : c.default.result ≡ no_key = search rules in rw e at c.open_next.ensures)
+pub returns-clause-goes : goal.returns-clause-goes
+returns-clause-goes c = goes_as (λ ts c' m. more-entries _ _ _ _ _ _ _ _ _ _ c.requires.listed c.if-f-eq0.false) (let e : c.default.result ≡ no_key = search rules in rw e at c.open_next.ensures.goes)

@@ -4,6 +4,6 @@ use Rattle.rows.specs.Lent.{lent_of}
 use Rattle.resume.proofs.Decided.{wrote_out}
 use Rattle.resume.proofs.Feeding.marker.Goals as goal
 
-pub returns : goal.returns
+pub returns-clause-decided : goal.returns-clause-decided
 unfolding lent_of
-returns c = search (rules, wrote_out)
+returns-clause-decided c = search (rules, wrote_out)

@@ -2,6 +2,6 @@
 use Rattle.format.specs.Step.{task_of}
 use Rattle.resume.proofs.Feeding.members_of.Goals as goal
 
-pub returns : goal.returns
+pub returns-clause-steps : goal.returns-clause-steps
 unfolding task_of
-returns c = c.onward.ensures
+returns-clause-steps c = c.onward.ensures.steps

@@ -3,5 +3,5 @@ use Rattle.std.proofs.Common.{refl}
 use Rattle.resume.proofs.Moves.{opens, waiting, kept}
 use Rattle.resume.proofs.Feeding.open_next.Goals as goal
 
-pub returns : goal.returns
-returns c = waiting (opens c.marker_work.ensures c.put_frame.ensures refl refl refl (kept c.args.self.now))
+pub returns-clause-goes : goal.returns-clause-goes
+returns-clause-goes c = waiting (opens c.marker_work.ensures c.put_frame.ensures refl refl refl (kept c.args.self.now))

@@ -4,10 +4,10 @@ use Rattle.format.specs.Step.{had, ends}
 use Rattle.resume.proofs.Moves.{stopped_by, after_it}
 use Rattle.resume.proofs.Feeding.string_there.Goals as goal
 
-pub returns-in_err-bodied : goal.returns-in_err-bodied
+pub returns-in_err-bodied-clause-steps : goal.returns-in_err-bodied-clause-steps
 unfolding had
-returns-in_err-bodied c = stopped_by (λ ts y. ends ts (on_rows (closed c.args.row))) c.in_err-bodied.ensures c.from_residual.ensures
+returns-in_err-bodied-clause-steps c = stopped_by (λ ts y. ends ts (on_rows (closed c.args.row))) c.in_err-bodied.ensures.decided c.from_residual.ensures
 
-pub returns : goal.returns
+pub returns-clause-steps : goal.returns-clause-steps
 unfolding had
-returns c = after_it (λ ts y. ends ts (on_rows (closed c.args.row))) c.in_ok-bodied.ensures c.close.ensures
+returns-clause-steps c = after_it (λ ts y. ends ts (on_rows (closed c.args.row))) c.in_ok-bodied.ensures.decided c.close.ensures.steps

@@ -4,6 +4,6 @@ use Rattle.rows.specs.Memory.{zeroed}
 use Rattle.rows.specs.Lent.{lent_of}
 use Rattle.scan.proofs.Reading.clear.Goals as goal
 
-pub returns : goal.returns
+pub returns-clause-zero : goal.returns-clause-zero
 unfolding zeroed lent_of
-returns c = search rules
+returns-clause-zero c = search rules

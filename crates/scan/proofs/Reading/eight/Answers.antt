@@ -3,8 +3,8 @@ use mathlib.Core.Path.{refl}
 use Rattle.std.proofs.lemmas.Result.{err_from_is_err_and}
 use Rattle.scan.proofs.Reading.eight.Goals as goal
 
-pub returns-in_err-n : goal.returns-in_err-n
-returns-in_err-n c = let p = err_from_is_err_and c.from_residual.result c.from_residual.ensures.1 in rw (p.1, p.2) (record { read = c.in_err-n.ensures _; same = (refl, (refl, refl)) })
+pub returns-in_err-n-clause-reads : goal.returns-in_err-n-clause-reads
+returns-in_err-n-clause-reads c = let p = err_from_is_err_and c.from_residual.result c.from_residual.ensures.1 in rw (p.1, p.2) (record { read = c.in_err-n.ensures _; same = (refl, (refl, refl)) })
 
-pub returns : goal.returns
-returns c = (record { read = c.in_ok-n.ensures _; same = (refl, (refl, refl)) })
+pub returns-clause-reads : goal.returns-clause-reads
+returns-clause-reads c = (record { read = c.in_ok-n.ensures _; same = (refl, (refl, refl)) })

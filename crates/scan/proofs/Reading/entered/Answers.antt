@@ -5,8 +5,8 @@ use Rattle.scan.proofs.Does.{does_entered}
 use Rattle.scan.proofs.Laws.{objects-long}
 use Rattle.scan.proofs.Reading.entered.Goals as goal
 
-pub returns-in_err-self : goal.returns-in_err-self
-returns-in_err-self c = let p = err_from_is_err_and c.from_residual.result c.from_residual.ensures.1 in rw (p.1, p.2) (record { read = does_entered _ _ _ _ _ _ _ _ _ _ _ c.in_err-self.ensures; same = (refl, (refl, objects-long _ _ _ _ _ _ _ c.entered.auto.objects)) })
+pub returns-in_err-self-clause-reads : goal.returns-in_err-self-clause-reads
+returns-in_err-self-clause-reads c = let p = err_from_is_err_and c.from_residual.result c.from_residual.ensures.1 in rw (p.1, p.2) (record { read = does_entered _ _ _ _ _ _ _ _ _ _ _ c.in_err-self.ensures; same = (refl, (refl, objects-long _ _ _ _ _ _ _ c.entered.auto.objects)) })
 
-pub returns : goal.returns
-returns c = (record { read = does_entered _ _ _ _ _ _ _ _ _ _ _ c.in_ok-self.ensures; same = (refl, (refl, objects-long _ _ _ _ _ _ _ c.entered.auto.objects)) })
+pub returns-clause-reads : goal.returns-clause-reads
+returns-clause-reads c = (record { read = does_entered _ _ _ _ _ _ _ _ _ _ _ c.in_ok-self.ensures; same = (refl, (refl, objects-long _ _ _ _ _ _ _ c.entered.auto.objects)) })

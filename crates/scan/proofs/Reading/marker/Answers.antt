@@ -5,8 +5,8 @@ use Rattle.scan.proofs.Does.{does_marker}
 use Rattle.scan.proofs.Laws.{rows-long}
 use Rattle.scan.proofs.Reading.marker.Goals as goal
 
-pub returns-in_err-row : goal.returns-in_err-row
-returns-in_err-row c = let p = err_from_is_err_and c.from_residual.result c.from_residual.ensures.1 in rw (p.1, p.2) (record { read = does_marker _ _ _ _ _ _ _ _ _ _ _ _ _ c.in_err-row.ensures; same = (refl, (refl, rows-long _ _ _ _ _ _ _ c.marker.auto.rows)) })
+pub returns-in_err-row-clause-reads : goal.returns-in_err-row-clause-reads
+returns-in_err-row-clause-reads c = let p = err_from_is_err_and c.from_residual.result c.from_residual.ensures.1 in rw (p.1, p.2) (record { read = does_marker _ _ _ _ _ _ _ _ _ _ _ _ _ c.in_err-row.ensures; same = (refl, (refl, rows-long _ _ _ _ _ _ _ c.marker.auto.rows)) })
 
-pub returns : goal.returns
-returns c = (record { read = does_marker _ _ _ _ _ _ _ _ _ _ _ _ _ c.in_ok-row.ensures; same = (refl, (refl, rows-long _ _ _ _ _ _ _ c.marker.auto.rows)) })
+pub returns-clause-reads : goal.returns-clause-reads
+returns-clause-reads c = (record { read = does_marker _ _ _ _ _ _ _ _ _ _ _ _ _ c.in_ok-row.ensures; same = (refl, (refl, rows-long _ _ _ _ _ _ _ c.marker.auto.rows)) })

@@ -5,8 +5,8 @@ use Rattle.scan.proofs.Does.{does_text-end}
 use Rattle.scan.proofs.Laws.{strings-long}
 use Rattle.scan.proofs.Reading.text_end.Goals as goal
 
-pub returns-in_err-span : goal.returns-in_err-span
-returns-in_err-span c = let p = err_from_is_err_and c.from_residual.result c.from_residual.ensures.1 in rw (p.1, p.2) (record { read = does_text-end _ _ _ _ _ _ _ _ _ _ _ _ c.in_err-span.ensures; same = (refl, (refl, strings-long _ _ _ _ _ _ _ c.text_end.auto.strings)) })
+pub returns-in_err-span-clause-reads : goal.returns-in_err-span-clause-reads
+returns-in_err-span-clause-reads c = let p = err_from_is_err_and c.from_residual.result c.from_residual.ensures.1 in rw (p.1, p.2) (record { read = does_text-end _ _ _ _ _ _ _ _ _ _ _ _ c.in_err-span.ensures; same = (refl, (refl, strings-long _ _ _ _ _ _ _ c.text_end.auto.strings)) })
 
-pub returns : goal.returns
-returns c = (record { read = does_text-end _ _ _ _ _ _ _ _ _ _ _ _ c.in_ok-span.ensures; same = (refl, (refl, strings-long _ _ _ _ _ _ _ c.text_end.auto.strings)) })
+pub returns-clause-reads : goal.returns-clause-reads
+returns-clause-reads c = (record { read = does_text-end _ _ _ _ _ _ _ _ _ _ _ _ c.in_ok-span.ensures; same = (refl, (refl, strings-long _ _ _ _ _ _ _ c.text_end.auto.strings)) })
