@@ -1,24 +1,47 @@
--- What is shown of bytes, byte by byte.
-use Rattle.std.proofs.Common.{◌≡◌, ℕ, ◌+◌, ◌-◌, ◌^◌, ◌/◌, ◌%◌, ◌<◌, ◌≤◌, false, List, [], ◌∷◌, ◌++◌, length, get_or, take, eqb, refl, ap, sym, ◌∙◌, take_all}
-use Rattle.std.proofs.lemmas.List.{take_more}
-use Rattle.std.proofs.lemmas.Fmt.{hex_byte}
-use Rattle.std.specs.Fmt.{digits, padded_integral, format_spec}
-use Rattle.listing.specs.Hex.{hex_of, shown_bytes, hex_digit_ascii}
+-- What is shown of bytes, some at a time.
+use Rattle.std.proofs.Common.{◌≡◌, ℕ, suc, ◌+◌, ◌*◌, ◌/◌, ◌%◌, ◌<◌, ◌≤◌, List, [], ◌∷◌, ◌++◌, length, get_or, take, refl, ap, sym, ◌∙◌, arith, take_all, append_assoc, length-set}
+use Rattle.std.proofs.Math.ListN.{set}
+use Rattle.std.proofs.lemmas.List.{take_more, take_more_set}
+use Rattle.std.proofs.lemmas.Str.Ascii.{IsAscii-nil, IsAscii-cons}
+use Rattle.std.specs.Str.{IsAscii}
+use Rattle.listing.specs.Hex.{hex_of, hex_digit_ascii}
 
--- what the hole `{:02x}` writes of a byte
-pub hex_one : (b : ℕ) → b < 256 → padded_integral (format_spec 32 0 4 2 (2 ^ 64 - 1)) false [] (digits 16 false b) ≡ hex_of (b ∷ [])
+-- the digits of bytes, and then those of more
+pub hex_of-append : (s t : List ℕ) → hex_of (s ++ t) ≡ hex_of s ++ hex_of t
 unfolding hex_of
-hex_one b h = hex_byte false b h
+hex_of-append [] t = refl
+hex_of-append (b ∷ s) t = ap (λ (l : List ℕ). hex_digit_ascii (b / 16) ∷ hex_digit_ascii (b % 16) ∷ l) (hex_of-append s t)
 
-hex-append : (s t : List ℕ) → hex_of (s ++ t) ≡ hex_of s ++ hex_of t
+-- digits are ASCII
+digit-ascii : (d : ℕ) → d < 16 → hex_digit_ascii d < 128
+digit-ascii d h = grind arith
+
+pub IsAscii-hex_of : (s : List ℕ) → ((k : ℕ) → get_or s k 0 < 256) → IsAscii (hex_of s)
 unfolding hex_of
-hex-append [] t = refl
-hex-append (b ∷ s) t = ap (λ (l : List ℕ). hex_digit_ascii (b / 16) ∷ hex_digit_ascii (b % 16) ∷ l) (hex-append s t)
+IsAscii-hex_of [] h = IsAscii-nil
+IsAscii-hex_of (b ∷ s) h =
+    let e : b < 256 = h 0 in
+    IsAscii-cons _ (hex_digit_ascii (b % 16) ∷ hex_of s) (digit-ascii (b / 16) (omega arith))
+    (IsAscii-cons _ (hex_of s) (digit-ascii (b % 16) (omega arith)) (IsAscii-hex_of s (λ k. h (suc k))))
 
--- the digits of the bytes so far, and those of the next
-pub hex_more : (s : List ℕ) (i : ℕ) → i < length s → hex_of (take i s) ++ hex_of (get_or s i 0 ∷ []) ≡ hex_of (take (i + 1) s)
-hex_more s i h = sym (ap hex_of (take_more s i 0 h) ∙ hex-append (take i s) (get_or s i 0 ∷ []))
+module _ (s out : List ℕ) (i : ℕ) where
+  -- two more digits, behind those of the bytes so far
+  set_two : (x y : ℕ) → 2 * i + 1 < length out → take (2 * (i + 1)) (set (set out (2 * i) x) (2 * i + 1) y) ≡ take (2 * i) out ++ x ∷ y ∷ []
+  set_two x y h =
+      let p : 2 * (i + 1) ≡ 2 * i + 1 + 1 = omega arith in
+      let q : 2 * i + 1 < length (set out (2 * i) x) = rw length-set h in
+      rw (p, take_more_set (set out (2 * i) x) (2 * i + 1) y q, take_more_set out (2 * i) x (omega arith)) (append_assoc (take (2 * i) out) _ _)
 
--- all bytes are shown
-pub hex_all : (s : List ℕ) (i : ℕ) → length s ≤ i → false ≡ eqb (length s) 0 → hex_of (take i s) ≡ shown_bytes s
-hex_all s i h e = rw (take_all i s h, ← e)
+  -- the bytes so far are spelled, and the next
+  pub spelled_more : (x y : ℕ) → i < length s → 2 * i + 1 < length out
+      → x ≡ hex_digit_ascii (get_or s i 0 / 16) → y ≡ hex_digit_ascii (get_or s i 0 % 16) → take (2 * i) out ≡ hex_of (take i s)
+      → take (2 * (i + 1)) (set (set out (2 * i) x) (2 * i + 1) y) ≡ hex_of (take (i + 1) s)
+  unfolding hex_of
+  spelled_more x y h room a b e =
+      rw (set_two x y room, a, b, e, take_more s i 0 h) (sym (hex_of-append (take i s) (get_or s i 0 ∷ [])))
+
+  -- all bytes are spelled
+  pub spelled_all : length s ≤ i → i ≤ length s → take (2 * i) out ≡ hex_of (take i s) → take (2 * length s) out ≡ hex_of s
+  spelled_all l m e =
+      let n : length s ≡ i = omega arith in
+      rw n (e ∙ ap hex_of (take_all i s l))

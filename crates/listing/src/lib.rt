@@ -3,23 +3,40 @@
 
 #![tactic(auto)]
 
-ghost use Rattle.std.specs.Prelude.{◌≡◌, Some, ◌∷◌, []};
+ghost use Rattle.std.specs.Prelude.{◌≡◌, ◌≤◌, ◌<◌, Some, length};
 ghost use Rattle.std.specs.Fmt.{WritesOnOk};
 ghost use Rattle.listing.specs.Words.{kind_name, value_of, text_of, told_of};
-ghost use Rattle.listing.specs.Hex.{hex_of, shown_bytes};
+ghost use Rattle.listing.specs.Hex.{hex_digit_ascii, hex_of, shown_bytes};
 
 use format::refusals;
 use rows::{Row, Span, Table, kinds};
 use std::fmt::Display;
-use std::{fmt, io};
+use std::{fmt, io, str};
 
 // ---- bytes as digits
 
-// Writes a byte in hex, two digits.
-fn write_byte<W: fmt::Write>(f: &mut fmt::Formatter<W>, b: u8) -> fmt::Result
-    ensures { WritesOnOk W.write_str_gives f.old result (hex_of (b ∷ [])) f.new }
+// A digit below 16, in ASCII.
+fn digit(d: u8) -> u8
+    requires { d < 16 }
+    ensures { result ≡ hex_digit_ascii d }
 {
-    write!(f, "{b:02x}")
+    if d < 10 { b'0' + d } else { b'a' - 10 + d }
+}
+
+// Writes at most 32 bytes in hex, two digits each. All go to the formatter at once: a call for each byte costs several times as much.
+fn write_few<W: fmt::Write>(f: &mut fmt::Formatter<W>, bytes: &[u8]) -> fmt::Result
+    requires { length bytes.now ≤ 32 }
+    ensures { WritesOnOk W.write_str_gives f.old result (hex_of bytes.now) f.new }
+{
+    let mut digits = [0u8; 64];
+    for (i, b) in bytes.iter().enumerate() {
+        digits[2 * i] = digit(b / 16);
+        digits[2 * i + 1] = digit(b % 16);
+    }
+    let Ok(text) = str::from_utf8(&digits[..2 * bytes.len()]) else {
+        unreachable!();
+    };
+    f.write_str(text)
 }
 
 // Bytes in hex, `-` where there are none.
@@ -33,8 +50,8 @@ impl Display for Hex<'_> {
         if self.0.is_empty() {
             return f.write_str("-");
         }
-        for b in self.0 {
-            write_byte(f, *b)?;
+        for few in self.0.chunks(32) {
+            write_few(f, few)?;
         }
         Ok(())
     }
