@@ -4,7 +4,7 @@
 
 #![tactic(auto)]
 
-ghost use Rattle.rows.specs.Lent.{memory_of};
+ghost use Rattle.rows.specs.Lent.{memory_of, SameLoans};
 ghost use Rattle.pinebuckle.specs.Calls.{BeginContract, FeedContract, EndContract};
 
 use pinebuckle::{
@@ -98,7 +98,8 @@ fn told<R: Print>(rt: &R, f: Fed) -> io::Result<State> {
 
 // Begins a reading: whatever the state was, it is made anew.
 fn lent_begin(mut state: State, loans: &mut Loans) -> Fed
-    ensures { BeginContract result.answer result.state (memory_of loans.new) (memory_of loans.old) }
+    ensures call { BeginContract result.answer result.state (memory_of loans.new) (memory_of loans.old) }
+    ensures same { SameLoans loans.old loans.new }
 {
     let answer = pinebuckle::begin(&mut state, loans);
     Fed { state, answer }
@@ -106,7 +107,8 @@ fn lent_begin(mut state: State, loans: &mut Loans) -> Fed
 
 // Feeds a piece.
 fn lent_feed(mut state: State, loans: &mut Loans, piece: &[u8]) -> Fed
-    ensures { FeedContract result.answer result.state (memory_of loans.new) state (memory_of loans.old) piece.now }
+    ensures call { FeedContract result.answer result.state (memory_of loans.new) state (memory_of loans.old) piece.now }
+    ensures same { SameLoans loans.old loans.new }
 {
     let answer = pinebuckle::feed(&mut state, loans, piece);
     Fed { state, answer }
@@ -114,7 +116,8 @@ fn lent_feed(mut state: State, loans: &mut Loans, piece: &[u8]) -> Fed
 
 // Declares the end.
 fn lent_end(mut state: State, loans: &mut Loans) -> Fed
-    ensures { EndContract result.answer result.state (memory_of loans.new) state (memory_of loans.old) }
+    ensures call { EndContract result.answer result.state (memory_of loans.new) state (memory_of loans.old) }
+    ensures same { SameLoans loans.old loans.new }
 {
     let answer = pinebuckle::end(&mut state, loans);
     Fed { state, answer }
